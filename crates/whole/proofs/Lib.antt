@@ -1,0 +1,12 @@
+pub mod Ring
+pub mod Polynomial
+pub mod Law
+pub mod Order
+pub mod Certificate
+pub mod Search
+pub mod Claim
+pub mod Cases
+pub mod Test
+pub mod Range
+pub mod Machine
+pub mod Divisor

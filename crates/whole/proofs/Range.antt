@@ -1,0 +1,71 @@
+-- Magnitudes of sums, products and quotients, and what they say of ranges. A number within b of 0 fits a word as soon as `ltb b (2 ^ 63)` computes to true:
+-- the `tt` that callers write is that computation.
+use mathlib.Core.Path.{_≡_, refl, sym, ap, subst}
+use mathlib.Core.Bool.{Bool, true, false, cond}
+use mathlib.Core.List.{List}
+use Prim.Native.Nat.{ℕ, zero, suc, _+_, _-_, _*_, _/_, _≤_, _<_}
+use native.Mathlib.Nat.{le-refl, le-trans, mul-le-mul, div-le-self}
+use native.Mathlib.Omega.{arith}
+use lib.Dec.{T, ltb, leb, leb→le}
+use borrow.Author.Tests.{ltb-true}
+use lib.IntN.{ℤ, pos, negsuc, negℤ, natAbs, _+ℤ_, _-ℤ_, _*ℤ_}
+use lib.Signed.{quotZ}
+use Rattle.whole.specs.Range.{Near, Within}
+
+-- ---- magnitudes
+
+pub natAbs-neg : (z : ℤ) → natAbs (negℤ z) ≡ natAbs z
+natAbs-neg (pos zero) = refl
+natAbs-neg (pos (suc n)) = refl
+natAbs-neg (negsuc n) = refl
+
+pub natAbs-mul : (a b : ℤ) → natAbs (a *ℤ b) ≡ natAbs a * natAbs b
+natAbs-mul (pos a) (pos b) = refl
+natAbs-mul (pos a) (negsuc b) = natAbs-neg (pos (a * suc b))
+natAbs-mul (negsuc a) (pos b) = natAbs-neg (pos (suc a * b))
+natAbs-mul (negsuc a) (negsuc b) = refl
+
+-- a − b of two naturals, as `subℕ` works it out
+difference : (a b : ℕ) (t : Bool) → ltb a b ≡ t → natAbs (cond t (negsuc (b - suc a)) (pos (a - b))) ≤ a + b
+difference a b true e = omega (arith, ltb-true a b e)
+difference a b false e = omega arith
+
+pub natAbs-add : (a b : ℤ) → natAbs (a +ℤ b) ≤ natAbs a + natAbs b
+natAbs-add (pos a) (pos b) = le-refl (a + b)
+natAbs-add (pos a) (negsuc b) = difference a (suc b) (ltb a (suc b)) refl
+natAbs-add (negsuc a) (pos b) = omega (arith, difference b (suc a) (ltb b (suc a)) refl)
+natAbs-add (negsuc a) (negsuc b) = omega arith
+
+pub natAbs-quot : (a : ℤ) (g : ℕ) → natAbs (quotZ a (pos g)) ≡ natAbs a / g
+natAbs-quot (pos a) g = refl
+natAbs-quot (negsuc a) g = natAbs-neg (pos (suc a / g))
+
+pub natAbs-zero : {z : ℤ} → natAbs z ≡ 0 → z ≡ pos 0
+natAbs-zero {z = pos n} e = ap pos e
+natAbs-zero {z = negsuc n} e = absurd (omega arith)
+
+-- ---- ranges
+
+pub near-zero : (b : ℕ) → Near b (pos 0)
+near-zero b = record { near = omega arith }
+
+pub near-le : {a b : ℕ} {x : ℤ} → Near a x → T (leb a b) → Near b x
+near-le {a} {b} h t = record { near = le-trans (h .near) (leb→le a b t) }
+
+pub near-neg : {b : ℕ} {x : ℤ} → Near b x → Near b (negℤ x)
+near-neg {x = x} h = record { near = omega (arith, natAbs-neg x, h .near) }
+
+pub near-mul : {a b : ℕ} {x y : ℤ} → Near a x → Near b y → Near (a * b) (x *ℤ y)
+near-mul {x = x} {y = y} h k = record { near = rw natAbs-mul (mul-le-mul (h .near) (k .near)) }
+
+pub near-add : {a b : ℕ} {x y : ℤ} → Near a x → Near b y → Near (a + b) (x +ℤ y)
+near-add {x = x} {y = y} h k = record { near = omega (arith, natAbs-add x y, h .near, k .near) }
+
+pub near-sub : {a b : ℕ} {x y : ℤ} → Near a x → Near b y → Near (a + b) (x -ℤ y)
+near-sub h k = near-add h (near-neg k)
+
+pub near-quot : {b : ℕ} {x : ℤ} → Near b x → (g : ℕ) → Near b (quotZ x (pos g))
+near-quot {x = x} h g = record { near = omega (arith, natAbs-quot x g, div-le-self (natAbs x) g, h .near) }
+
+pub within-le : {a b : ℕ} {m : List ℤ} → Within a m → T (leb a b) → Within b m
+within-le w t = record { n0 = near-le (w .n0) t; n1 = near-le (w .n1) t; n2 = near-le (w .n2) t; n3 = near-le (w .n3) t }

@@ -1,0 +1,3 @@
+-- What the contracts of `whole`, and of the crates above it, cite of whole numbers.
+pub mod Range
+pub mod Divisor
