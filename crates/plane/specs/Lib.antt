@@ -1,0 +1,4 @@
+-- Document 01, "Points, matrices, intervals", as definitions.
+pub mod Plane
+pub mod Inclusion
+pub mod Fits
