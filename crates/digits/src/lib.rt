@@ -1,0 +1,271 @@
+// Digit systems: document 01's section "A digit system" and its refusals 3 and 6 to 10.
+// Public: `System`, `Admission`, `admit`, and the built-in `system_r`, `system_b`, `system_d`. The rest is for the crates above, which lend a system's rows as a slice.
+ghost use mathlib.Core.Path.{_≡_};
+ghost use mathlib.Core.Option.{Option};
+ghost use Prim.Native.Nat.{_+_, _*_, _<_, _≤_};
+ghost use lib.ListN.{length};
+ghost use Rattle.whole.specs.Range.{Within};
+ghost use Rattle.digits.specs.System.{fourAt, putRow};
+ghost use Rattle.digits.specs.First.{first};
+ghost use Rattle.digits.specs.Admission.{refusalNumber, within?, lowestEnds?, rowVerdict, goesOn?, goneOn?, covered?, Small, rowsVerdict, admissionOf};
+ghost use Rattle.digits.specs.BuiltIn.{systemOf, rowsR, rowsB, rowsD};
+
+// A system in memory: how many digits, and 16 rows of eight numbers each, one behind the other. Whatever stands in the rows from `count` on changes no answer.
+pub struct System {
+    pub count: usize,
+    pub rows: [i16; 128],
+}
+
+// What the judgement of a system answers: admitted, or which rule it breaks first. `refusalNumber` gives document 01's number for each.
+pub enum Admission {
+    Admitted,
+    WrongCount,
+    OutOfRange,
+    NotAbove,
+    NotBelow,
+    NotLowest,
+    Uncovered,
+}
+
+// Document 01's number for a refusal, and 0 for none.
+pub fn refusal_number(v: Admission) -> u8
+    ensures { λ r. ⌜ r ≡ refusalNumber v ⌝ }
+{
+    match v {
+        Admission::Admitted => 0,
+        Admission::WrongCount => 3,
+        Admission::OutOfRange => 6,
+        Admission::NotAbove => 7,
+        Admission::NotBelow => 8,
+        Admission::NotLowest => 9,
+        Admission::Uncovered => 10,
+    }
+}
+
+fn wide(x: i16) -> i64
+    ensures { λ r. ⌜ r ≡ x ⌝ }
+{
+    x as i64
+}
+
+// Four numbers of the rows, from a place on: a transformation at 8·a, an interval at 8·a + 4.
+pub fn four_at(rows: &[i16], p: usize) -> [i64; 4]
+    requires { ⌜ p + 4 ≤ length (now rows) ⌝ }
+    ensures { λ r. ⌜ r ≡ fourAt (now (rows .entry)) p ⌝ }
+{
+    [wide(rows[p]), wide(rows[p + 1]), wide(rows[p + 2]), wide(rows[p + 3])]
+}
+
+// Whether four numbers lie in −b..b. Of any four numbers at all.
+pub fn within(m: [i64; 4], b: u64) -> bool
+    ensures { λ r. ⌜ r ≡ within? b m ⌝ }
+{
+    if b < whole::magnitude(m[0]) {
+        return false;
+    }
+    if b < whole::magnitude(m[1]) {
+        return false;
+    }
+    if b < whole::magnitude(m[2]) {
+        return false;
+    }
+    whole::magnitude(m[3]) <= b
+}
+
+// Whether both ends of an interval are in lowest terms.
+fn lowest_ends(w: [i64; 4]) -> bool
+    ensures { λ r. ⌜ r ≡ lowestEnds? w ⌝ }
+{
+    if whole::gcd(whole::magnitude(w[0]), whole::magnitude(w[1])) != 1 {
+        return false;
+    }
+    whole::gcd(whole::magnitude(w[2]), whole::magnitude(w[3])) == 1
+}
+
+// One row: "6, 7, 8, 9", in this order.
+fn row_verdict(f: [i64; 4], w: [i64; 4]) -> Admission
+    ensures { λ r. ⌜ r ≡ rowVerdict f w ⌝ }
+{
+    if !within(f, 100) {
+        return Admission::OutOfRange;
+    }
+    if !within(w, 100) {
+        return Admission::OutOfRange;
+    }
+    if plane::determinant(f) <= 0 {
+        return Admission::NotAbove;
+    }
+    if 0 <= plane::determinant(w) {
+        return Admission::NotBelow;
+    }
+    if plane::divisor(f) != 1 {
+        return Admission::NotLowest;
+    }
+    if lowest_ends(w) {
+        return Admission::Admitted;
+    }
+    Admission::NotLowest
+}
+
+// Whether the interval w goes on behind the right end of v: it holds that end, and does not end there too.
+fn goes_on(v: [i64; 4], w: [i64; 4]) -> bool
+    requires { ⌜ (Within 100 v) × (Within 100 w) ⌝ }
+    ensures { λ r. ⌜ r ≡ goesOn? v w ⌝ }
+{
+    let s = plane::determinant([w[2], w[3], v[2], v[3]]);
+    if s == 0 {
+        return false;
+    }
+    plane::apart(plane::determinant([w[0], w[1], v[2], v[3]]), s)
+}
+
+// Whether some digit's interval goes on behind the right end of v.
+fn gone_on(rows: &[i16], n: usize, v: [i64; 4]) -> bool
+    requires { ⌜ (8 * n ≤ length (now rows)) × (n ≤ 16) × (Within 100 v) × (Small (now rows) n) ⌝ }
+    ensures { λ r. ⌜ r ≡ goneOn? (now (rows .entry)) n v ⌝ }
+{
+    let mut b = 0;
+    while b < n {
+        if goes_on(v, four_at(rows, 8 * b + 4)) {
+            return true;
+        }
+        b += 1;
+    }
+    false
+}
+
+// Whether the closed intervals leave no point out: behind the right end of each, another goes on.
+fn covered(rows: &[i16], n: usize) -> bool
+    requires { ⌜ (8 * n ≤ length (now rows)) × (n ≤ 16) × (Small (now rows) n) ⌝ }
+    ensures { λ r. ⌜ r ≡ covered? (now (rows .entry)) n ⌝ }
+{
+    let mut a = 0;
+    while a < n {
+        if !gone_on(rows, n, four_at(rows, 8 * a + 4)) {
+            return false;
+        }
+        a += 1;
+    }
+    true
+}
+
+// "System: row by row 6, 7, 8, 9; then 10."
+fn rows_verdict(rows: &[i16], n: usize) -> Admission
+    requires { ⌜ (8 * n ≤ length (now rows)) × (n ≤ 16) ⌝ }
+    ensures { λ r. ⌜ r ≡ rowsVerdict (now (rows .entry)) n ⌝ }
+{
+    let mut a = 0;
+    while a < n {
+        let v = row_verdict(four_at(rows, 8 * a), four_at(rows, 8 * a + 4));
+        if refusal_number(v) != 0 {
+            return v;
+        }
+        a += 1;
+    }
+    if covered(rows, n) {
+        return Admission::Admitted;
+    }
+    Admission::Uncovered
+}
+
+// The judgement of a system whose rows are lent.
+pub fn judged(count: usize, rows: &[i16]) -> Admission
+    requires { ⌜ 128 ≤ length (now rows) ⌝ }
+    ensures { λ r. ⌜ r ≡ admissionOf count (now (rows .entry)) ⌝ }
+{
+    if count == 0 {
+        return Admission::WrongCount;
+    }
+    if 16 < count {
+        return Admission::WrongCount;
+    }
+    rows_verdict(rows, count)
+}
+
+// Whether a system is admitted, and if not, which rule it breaks first. Of any struct at all.
+pub fn admit(s: System) -> Admission
+    ensures { λ r. ⌜ r ≡ admissionOf (s .count) (s .rows) ⌝ }
+{
+    let rows = s.rows;
+    judged(s.count, &rows)
+}
+
+const R: [[i16; 8]; 4] = [
+    [1, 0, 1, 1, 0, 1, 1, 1],
+    [1, 1, 0, 1, 1, 1, 1, 0],
+    [1, -1, 0, 1, 1, 0, 1, -1],
+    [1, 0, -1, 1, -1, 1, 0, 1],
+];
+
+const D: [[i16; 8]; 4] = [
+    [1, -1, 0, 2, -2, 1, 0, 1],
+    [1, 0, 0, 2, -1, 2, 1, 2],
+    [1, 1, 0, 2, 0, 1, 2, 1],
+    [2, 0, 0, 1, 3, 2, 3, -2],
+];
+
+const B: [[i16; 8]; 8] = [
+    [1, 0, 1, 2, -1, 3, 1, 1],
+    [1, 1, 0, 2, 0, 1, 2, 1],
+    [2, 0, 1, 1, 1, 2, 1, 0],
+    [2, 1, 0, 1, 1, 1, 3, -1],
+    [2, -1, 0, 1, 3, 1, 1, -1],
+    [2, 0, -1, 1, 1, 0, 1, -2],
+    [1, -1, 0, 2, -2, 1, 0, 1],
+    [1, 0, -1, 2, -1, 1, 1, 3],
+];
+
+// A row written into its place.
+fn put_row(rows: &mut [i16], p: usize, row: [i16; 8])
+    requires { ⌜ p + 8 ≤ length (now rows) ⌝ }
+    ensures { λ _. ⌜ now (rows .exit) ≡ putRow (now (rows .entry)) p row ⌝ }
+{
+    rows[p] = row[0];
+    rows[p + 1] = row[1];
+    rows[p + 2] = row[2];
+    rows[p + 3] = row[3];
+    rows[p + 4] = row[4];
+    rows[p + 5] = row[5];
+    rows[p + 6] = row[6];
+    rows[p + 7] = row[7];
+}
+
+// The built-in system R (document 000).
+pub fn system_r() -> System
+    ensures { λ r. ⌜ r ≡ systemOf rowsR ⌝ }
+{
+    let mut rows = [0i16; 128];
+    put_row(&mut rows, 0, R[0]);
+    put_row(&mut rows, 8, R[1]);
+    put_row(&mut rows, 16, R[2]);
+    put_row(&mut rows, 24, R[3]);
+    System { count: 4, rows }
+}
+
+// The built-in system D (document 004, binary redundant).
+pub fn system_d() -> System
+    ensures { λ r. ⌜ r ≡ systemOf rowsD ⌝ }
+{
+    let mut rows = [0i16; 128];
+    put_row(&mut rows, 0, D[0]);
+    put_row(&mut rows, 8, D[1]);
+    put_row(&mut rows, 16, D[2]);
+    put_row(&mut rows, 24, D[3]);
+    System { count: 4, rows }
+}
+
+// The built-in system B (document 001, the maximal cover).
+pub fn system_b() -> System
+    ensures { λ r. ⌜ r ≡ systemOf rowsB ⌝ }
+{
+    let mut rows = [0i16; 128];
+    put_row(&mut rows, 0, B[0]);
+    put_row(&mut rows, 8, B[1]);
+    put_row(&mut rows, 16, B[2]);
+    put_row(&mut rows, 24, B[3]);
+    put_row(&mut rows, 32, B[4]);
+    put_row(&mut rows, 40, B[5]);
+    put_row(&mut rows, 48, B[6]);
+    put_row(&mut rows, 56, B[7]);
+    System { count: 8, rows }
+}
