@@ -1,0 +1,343 @@
+// The unary algorithm: document 01's section "The step", refusals 6, 11 and 12, ends 0, 20, 21 and 22.
+// Public: `State`, `open` and `run` with the types of their answers. The rest are the steps of a run.
+ghost use mathlib.Core.Path.{_≡_};
+ghost use Prim.Native.Nat.{_≤_};
+ghost use lib.ListN.{length};
+ghost use Rattle.whole.specs.Range.{Within};
+ghost use Rattle.digits.specs.Admission.{Small};
+ghost use Rattle.unary.specs.State.{heldDigit?, state?, openOf};
+ghost use Rattle.unary.specs.Step.{loadOf, ranged, fittingOf, giveOf, absorbOf, emitOf, stepOf};
+ghost use Rattle.unary.specs.Run.{nextAt, stepsOf, refusalOf, runOf, systems};
+ghost use Rattle.unary.specs.Ready.{lent, fitting, Turn, Lent, Ready};
+use digits::System;
+
+// A digit that was taken and is not yet absorbed, or none.
+pub enum Held {
+    Nothing,
+    Digit(u8),
+}
+
+// What a session keeps between two calls.
+pub struct State {
+    pub matrix: [i64; 4],
+    pub held: Held,
+}
+
+// What opening answers; `openingNumber` gives document 01's number.
+pub enum Opening {
+    Opens,
+    OutOfRange,
+    NotAbove,
+}
+
+// An opened session, or the refusal with nothing in the state's place.
+pub struct Start {
+    pub opening: Opening,
+    pub state: State,
+}
+
+// Why a run stopped; `endNumber` gives document 01's number.
+pub enum Stop {
+    InputUsed,
+    NoRoom,
+    NotADigit,
+    RangeLeft,
+    Refused(u8),
+}
+
+// The two counts, kept apart: the source's input pointer and its output pointer.
+pub struct Taken(pub usize);
+
+pub struct Written(pub usize);
+
+pub struct Answer {
+    pub stop: Stop,
+    pub taken: Taken,
+    pub written: Written,
+    pub state: State,
+}
+
+// The next byte of the input, if there is one.
+pub enum Next {
+    Byte(u8),
+    End,
+}
+
+// The digit that fits, if one does.
+pub enum Fitting {
+    At(u8),
+    Missing,
+}
+
+// What one step does.
+pub enum Kind {
+    Load,
+    Give(u8),
+    Absorb,
+    Halt(Stop),
+}
+
+pub struct Move {
+    pub kind: Kind,
+    pub state: State,
+}
+
+// "Opening takes M with entries in −1000..1000 and determinant above 0; X is M cancelled, nothing held." Of any four numbers at all.
+pub fn open(m: [i64; 4]) -> Start
+    ensures { λ r. ⌜ r ≡ openOf m ⌝ }
+{
+    let none = State {
+        matrix: [0; 4],
+        held: Held::Nothing,
+    };
+    if !digits::within(m, 1000) {
+        return Start {
+            opening: Opening::OutOfRange,
+            state: none,
+        };
+    }
+    if plane::determinant(m) <= 0 {
+        return Start {
+            opening: Opening::NotAbove,
+            state: none,
+        };
+    }
+    let matrix = plane::cancel(m);
+    let state = State {
+        matrix,
+        held: Held::Nothing,
+    };
+    Start {
+        opening: Opening::Opens,
+        state,
+    }
+}
+
+// Whether the held digit, if there is one, is one of n.
+fn held_below(n: usize, h: Held) -> bool
+    ensures { λ r. ⌜ r ≡ heldDigit? n h ⌝ }
+{
+    match h {
+        Held::Nothing => true,
+        Held::Digit(d) => (d as usize) < n,
+    }
+}
+
+// Whether a state keeps the rules for a state, with an input system of n digits: what refusal 12 is about. Of any state at all.
+pub fn state_kept(n: usize, s: State) -> bool
+    ensures { λ r. ⌜ r ≡ state? n s ⌝ }
+{
+    let x = s.matrix;
+    if !digits::within(x, 1000000000) {
+        return false;
+    }
+    if plane::determinant(x) <= 0 {
+        return false;
+    }
+    if plane::divisor(x) != 1 {
+        return false;
+    }
+    let h = s.held;
+    held_below(n, h)
+}
+
+fn next_at(input: &[u8], i: usize) -> Next
+    ensures { λ r. ⌜ r ≡ nextAt (now (input .entry)) i ⌝ }
+{
+    if i < input.len() {
+        Next::Byte(input[i])
+    } else {
+        Next::End
+    }
+}
+
+// Lines 1 to 3 of a step: nothing is held.
+fn load(n: usize, s: State, next: Next) -> Move
+    ensures { λ r. ⌜ r ≡ loadOf n s next ⌝ }
+{
+    match next {
+        Next::End => Move {
+            kind: Kind::Halt(Stop::InputUsed),
+            state: s,
+        },
+        Next::Byte(b) => {
+            if (b as usize) < n {
+                let matrix = s.matrix;
+                let t = State {
+                    matrix,
+                    held: Held::Digit(b),
+                };
+                Move {
+                    kind: Kind::Load,
+                    state: t,
+                }
+            } else {
+                Move {
+                    kind: Kind::Halt(Stop::NotADigit),
+                    state: s,
+                }
+            }
+        }
+    }
+}
+
+// A new state, if its entries lie in the range; else end 22, with the state before.
+fn in_range(s: State, kind: Kind, t: State) -> Move
+    ensures { λ r. ⌜ r ≡ ranged s kind t ⌝ }
+{
+    let x = t.matrix;
+    if digits::within(x, 1000000000) {
+        return Move { kind, state: t };
+    }
+    Move {
+        kind: Kind::Halt(Stop::RangeLeft),
+        state: s,
+    }
+}
+
+// Line 4, its first half: the smallest output digit whose interval includes the image.
+fn fitting_digit(m: usize, rows: &[i16], image: [i64; 4]) -> Fitting
+    requires { ⌜ (128 ≤ length (now rows)) × (m ≤ 16) × (Within 200000000000 image) × (Small (now rows) m) ⌝ }
+    ensures { λ r. ⌜ r ≡ fitting (fittingOf m (now (rows .entry)) image) ⌝ }
+{
+    let mut b = 0;
+    while b < m {
+        if plane::included(image, digits::four_at(rows, 8 * b + 4)) {
+            return Fitting::At(b as u8);
+        }
+        b += 1;
+    }
+    Fitting::Missing
+}
+
+// Line 4, its second half: the digit b is given out.
+fn give(rows: &[i16], s: State, b: u8, room: bool) -> Move
+    requires { ⌜ Turn (now rows) s b ⌝ }
+    ensures { λ r. ⌜ r ≡ giveOf (now (rows .entry)) s b room ⌝ }
+{
+    if !room {
+        return Move {
+            kind: Kind::Halt(Stop::NoRoom),
+            state: s,
+        };
+    }
+    let x = s.matrix;
+    let held = s.held;
+    let g = digits::four_at(rows, 8 * (b as usize));
+    let matrix = plane::cancel(plane::multiply(plane::pseudoinverse(g), x));
+    let t = State { matrix, held };
+    in_range(s, Kind::Give(b), t)
+}
+
+// Line 5: the held digit h is absorbed.
+fn absorb(rows: &[i16], s: State, h: u8) -> Move
+    requires { ⌜ Turn (now rows) s h ⌝ }
+    ensures { λ r. ⌜ r ≡ absorbOf (now (rows .entry)) s h ⌝ }
+{
+    let x = s.matrix;
+    let f = digits::four_at(rows, 8 * (h as usize));
+    let matrix = plane::cancel(plane::multiply(x, f));
+    let t = State {
+        matrix,
+        held: Held::Nothing,
+    };
+    in_range(s, Kind::Absorb, t)
+}
+
+// Lines 4 and 5: the digit h is held.
+fn emit(in_rows: &[i16], outs: usize, out_rows: &[i16], s: State, h: u8, room: bool) -> Move
+    requires { ⌜ (Turn (now in_rows) s h) × (Lent outs (now out_rows)) ⌝ }
+    ensures { λ r. ⌜ r ≡ emitOf (now (in_rows .entry)) outs (now (out_rows .entry)) s h room ⌝ }
+{
+    let w = digits::four_at(in_rows, 8 * (h as usize) + 4);
+    let x = s.matrix;
+    let image = plane::image(x, w);
+    match fitting_digit(outs, out_rows, image) {
+        Fitting::At(b) => give(out_rows, s, b, room),
+        Fitting::Missing => absorb(in_rows, s, h),
+    }
+}
+
+// One step, first line that applies.
+fn step(ins: usize, in_rows: &[i16], outs: usize, out_rows: &[i16], s: State, next: Next, room: bool) -> Move
+    requires { ⌜ Ready (lent ins (now in_rows) outs (now out_rows)) s ⌝ }
+    ensures { λ r. ⌜ r ≡ stepOf (lent ins (now (in_rows .entry)) outs (now (out_rows .entry))) s next room ⌝ }
+{
+    let held = s.held;
+    match held {
+        Held::Nothing => load(ins, s, next),
+        Held::Digit(h) => emit(in_rows, outs, out_rows, s, h, room),
+    }
+}
+
+// The steps of a run whose systems and state are judged. A digit is written only after its state is known to fit.
+fn steps(ins: usize, in_rows: &[i16], outs: usize, out_rows: &[i16], s: State, input: &[u8], output: &mut [u8]) -> Answer
+    requires { ⌜ Ready (lent ins (now in_rows) outs (now out_rows)) s ⌝ }
+    ensures { λ r. ⌜ (r ≡ stepsOf (lent ins (now (in_rows .entry)) outs (now (out_rows .entry))) s (now (input .entry)) (now (output .entry)) .answer) × (now (output .exit) ≡ stepsOf (lent ins (now (in_rows .entry)) outs (now (out_rows .entry))) s (now (input .entry)) (now (output .entry)) .output) ⌝ }
+{
+    let mut st = s;
+    let mut i: usize = 0;
+    let mut o: usize = 0;
+    loop {
+        let next = next_at(input, i);
+        let room = o < output.len();
+        let m = step(ins, in_rows, outs, out_rows, st, next, room);
+        let kind = m.kind;
+        let t = m.state;
+        st = t;
+        match kind {
+            Kind::Halt(stop) => {
+                return Answer {
+                    stop,
+                    taken: Taken(i),
+                    written: Written(o),
+                    state: t,
+                };
+            }
+            Kind::Load => {
+                i += 1;
+            }
+            Kind::Give(b) => {
+                output[o] = b;
+                o += 1;
+            }
+            Kind::Absorb => {}
+        }
+    }
+}
+
+// "A run judges its input system (3, 6 to 10), its output system, then the state (12), before any step": the number of the refusal, or 0.
+fn refusal(ins: usize, in_rows: &[i16], outs: usize, out_rows: &[i16], s: State) -> u8
+    requires { ⌜ (128 ≤ length (now in_rows)) × (128 ≤ length (now out_rows)) ⌝ }
+    ensures { λ r. ⌜ r ≡ refusalOf (lent ins (now (in_rows .entry)) outs (now (out_rows .entry))) s ⌝ }
+{
+    let a = digits::refusal_number(digits::judged(ins, in_rows));
+    if a != 0 {
+        return a;
+    }
+    let b = digits::refusal_number(digits::judged(outs, out_rows));
+    if b != 0 {
+        return b;
+    }
+    if state_kept(ins, s) { 0 } else { 12 }
+}
+
+// A run: bytes of the input are taken and digits are written to the output until a step stops. Of any two systems, any state, any input and any output at all.
+pub fn run(input_system: System, output_system: System, state: State, input: &[u8], output: &mut [u8]) -> Answer
+    ensures { λ r. ⌜ (r ≡ runOf input_system output_system state (now (input .entry)) (now (output .entry)) .answer) × (now (output .exit) ≡ runOf input_system output_system state (now (input .entry)) (now (output .entry)) .output) ⌝ }
+{
+    let ins = input_system.count;
+    let in_rows = input_system.rows;
+    let outs = output_system.count;
+    let out_rows = output_system.rows;
+    let number = refusal(ins, &in_rows, outs, &out_rows, state);
+    if number != 0 {
+        return Answer {
+            stop: Stop::Refused(number),
+            taken: Taken(0),
+            written: Written(0),
+            state,
+        };
+    }
+    steps(ins, &in_rows, outs, &out_rows, state, input, output)
+}
