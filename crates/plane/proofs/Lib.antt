@@ -1,0 +1,2 @@
+-- Document 01, "Points, matrices, intervals", as theorems of its definitions.
+pub mod Identities
