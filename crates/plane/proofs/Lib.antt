@@ -1,2 +1,4 @@
 -- Document 01, "Points, matrices, intervals", as theorems of its definitions.
+pub mod SameSign
 pub mod Identities
+pub mod Moves
