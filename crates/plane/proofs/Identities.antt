@@ -3,10 +3,9 @@
 -- What is said here of matrices is said once for a row (a, b) of the first factor and a column (x, y) of the last, and used for all of them.
 use mathlib.Core.Path.{_≡_, refl, sym, _∙_, ap}
 use mathlib.Core.List.{List, [], _∷_}
-use Prim.Native.Nat.{ℕ}
 use native.Mathlib.Omega.{arith}
 use lib.ListN.{length}
-use lib.IntN.{ℤ, pos, negℤ, _+ℤ_, _-ℤ_, _*ℤ_}
+use lib.IntN.{ℤ, pos, negℤ, _+ℤ_, _*ℤ_}
 use Rattle.whole.specs.Range.{at}
 use Rattle.whole.proofs.Polynomial.{E, _⊕_, _⊖_, _⊗_, ⊝_}
 use Rattle.whole.proofs.Law.{#, _≗_, law}
@@ -32,7 +31,8 @@ four (a ∷ b ∷ c ∷ d ∷ f ∷ m) e = absurd (omega arith)
 
 -- ---- determinants of pairs
 
-abbrev Det : E → E → E → E → E
+-- a ⊗ d ⊖ b ⊗ c: a determinant, as the solver reads it
+abbrev pub Det : E → E → E → E → E
 Det a b c d = a ⊗ d ⊖ b ⊗ c
 
 pub det-turned : (x y : Pair) → det x y ≡ negℤ (det y x)
@@ -58,6 +58,11 @@ unfolding scalePair
 det-scale k l x y = law 6 (λ k l a b c d. Det (k ⊗ a) (k ⊗ b) (l ⊗ c) (l ⊗ d) ≗ k ⊗ l ⊗ Det a b c d) tt k l (x .z0) (x .z1) (y .z0) (y .z1)
 
 -- ---- determinants of matrices
+
+-- of an interval, written as its two ends, it is the ends' determinant
+pub determinant-ends : (w : List ℤ) → determinantOf w ≡ det (left w) (right w)
+unfolding determinantOf
+determinant-ends w = refl
 
 pub det-apply : (m : List ℤ) (p q : Pair) → det (apply m p) (apply m q) ≡ determinantOf m *ℤ det p q
 unfolding apply determinantOf
@@ -106,6 +111,10 @@ left-image m w = refl
 pub right-image : (m w : List ℤ) → right (imageOf m w) ≡ apply m (right w)
 unfolding imageOf
 right-image m w = refl
+
+pub determinant-image : (m w : List ℤ) → determinantOf (imageOf m w) ≡ determinantOf m *ℤ determinantOf w
+unfolding determinantOf imageOf
+determinant-image m w = det-apply m (left w) (right w)
 
 pub image-multiply : (m n w : List ℤ) → imageOf (multiplyOf m n) w ≡ imageOf m (imageOf n w)
 unfolding imageOf
@@ -215,7 +224,8 @@ undoes-pair m n k e z =
     sym (apply-multiply m n z) ∙ ap (λ (x : List ℤ). apply x z) e ∙ apply-scale k identityOf z ∙ ap (scalePair k) (apply-identity z)
 
 undoes : (m n : List ℤ) (k : ℤ) → multiplyOf m n ≡ scaleOf k identityOf → (x : List ℤ) → multiplyOf m (multiplyOf n x) ≡ scaleOf k x
-undoes m n k e x = sym (multiply-assoc m n x) ∙ ap (λ (y : List ℤ). multiplyOf y x) e ∙ multiply-scale-left k identityOf x ∙ ap (scaleOf k) (multiply-identity-left x) ∙ scale-entries k x
+undoes m n k e x =
+    sym (multiply-assoc m n x) ∙ ap (λ (y : List ℤ). multiplyOf y x) e ∙ multiply-scale-left k identityOf x ∙ ap (scaleOf k) (multiply-identity-left x) ∙ scale-entries k x
 
 pub pseudoinverse-apply : (m : List ℤ) (z : Pair) → apply (pseudoinverseOf m) (apply m z) ≡ scalePair (determinantOf m) z
 pseudoinverse-apply m = undoes-pair (pseudoinverseOf m) m (determinantOf m) (pseudoinverse-left m)

@@ -2,3 +2,6 @@
 pub mod SameSign
 pub mod Identities
 pub mod Moves
+pub mod Points
+pub mod Ends
+pub mod Cancelling

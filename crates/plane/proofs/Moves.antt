@@ -1,7 +1,7 @@
 -- A matrix of determinant above 0 keeps what document 01 says of points and intervals: z is inside W exactly if its image is inside W's image, the same for closed, the
 -- image of an interval is an interval, and the image of a point is a point.
--- The argument: every determinant of two images is the matrix's determinant D times that of the two pairs (`det-apply`), so the product that says "inside" grows by D·D and
--- keeps its sign. For points: the pseudoinverse leads back from the image to D times the point.
+-- The argument: every determinant of two images is the matrix's determinant D times that of the two pairs (`det-apply`), so the product that says "inside" grows by D·D
+-- and keeps its sign. For points: the pseudoinverse leads back from the image to D times the point.
 use mathlib.Core.Path.{_≡_, sym, _∙_, subst}
 use mathlib.Core.List.{List}
 use lib.IntN.{ℤ, pos, _+ℤ_, _*ℤ_}

@@ -3,7 +3,7 @@
 use mathlib.Core.Path.{_≡_}
 use mathlib.Core.List.{List, [], _∷_}
 use lib.IntN.{ℤ, pos, _*ℤ_}
-use lib.Signed.{_≤ℤ_, _<ℤ_}
+use lib.Signed.{_<ℤ_}
 use Rattle.whole.specs.Range.{at}
 use Rattle.plane.specs.Plane.{Pair, left, right, determinantOf}
 
@@ -35,6 +35,13 @@ pub record SameSign (p q : ℤ) : Type 0 where
   pub above : pos 0 <ℤ p → pos 0 <ℤ q
   pub below : p <ℤ pos 0 → q <ℤ pos 0
   pub zero : p ≡ pos 0 → q ≡ pos 0
+
+-- the four numbers of n lie where those of m lie
+pub record SameSigns (m n : List ℤ) : Type 0 where
+  pub s0 : SameSign (at m 0) (at n 0)
+  pub s1 : SameSign (at m 1) (at n 1)
+  pub s2 : SameSign (at m 2) (at n 2)
+  pub s3 : SameSign (at m 3) (at n 3)
 
 -- v's ends are multiples of w's by two numbers of one sign: an end may grow, both may change their sign, and the interval is the same
 pub record SameEnds (w v : List ℤ) : Type 0 where
