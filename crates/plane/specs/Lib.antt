@@ -2,3 +2,4 @@
 pub mod Plane
 pub mod Inclusion
 pub mod Fits
+pub mod Scale
