@@ -1,0 +1,4 @@
+pub mod InclusionSigns
+pub mod InclusionTests
+pub mod Inclusion
+pub mod InclusionRuns
