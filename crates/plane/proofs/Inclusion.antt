@@ -1,11 +1,11 @@
--- The inclusion theorem. Document 01: "I is included in J exactly if every point inside I is inside J. For whole-number ends this is: both ends of I are in closed J, and
--- either I and J have one and the same left end and one and the same right end, as points, or some end of J is not in closed I. .. Ours is proved to say the first sentence."
--- Here it is: `included-says` and `says-included`. Besides, a failing test shows a point of I outside closed J (`not-included`), and the closed intervals are included too
--- (`closed-included`).
+-- The inclusion theorem. Document 01: "I is included in J exactly if every point inside I is inside J. For whole-number ends this is: both ends of I are in
+-- closed J, and either I and J have one and the same left end and one and the same right end, as points, or some end of J is not in closed I. .. Ours is
+-- proved to say the first sentence." Here it is: `included-says` and `says-included`. Besides, a test that fails shows a point inside I and outside closed J
+-- (`not-included`), and where the test holds closed I is included in closed J too (`closed-included`). InclusionTests.antt says what the parts of the test mean.
 --
--- The argument: the test and both sentences are put in the four numbers of InclusionSigns.antt (`Seen`), where the test's answer decides (`answer`) between
--- "every mixture of x and y with factors of one sign keeps to J" and "one such mixture lies outside". A point z of I is such a mixture, by
--- det(x, y)·z = det(z, y)·x + det(x, z)·y (Cramer's rule, `Mixture`); and every such mixture is a point inside I (`witness`).
+-- The argument. The test is read in the four numbers of InclusionSigns.antt (`Seen`). There its answer decides (`answer`) between "every mixture α·x + β·y of
+-- I's ends with α·β > 0 is inside J" and "one such mixture is outside". And these mixtures are the points inside I: each point z is one, up to a factor, by
+-- Cramer's rule det(x, y)·z = det(z, y)·x + det(x, z)·y (`mixture`); and each of them is inside I (`mix-inside`).
 use mathlib.Core.Path.{_≡_, refl, sym, _∙_, ap, ap₂, subst}
 use mathlib.Core.Bool.{Bool, true, false, _&&_}
 use mathlib.Core.List.{List}
@@ -19,8 +19,9 @@ use Rattle.whole.proofs.Claim.{_⇒_, _by_, claim}
 use Rattle.whole.proofs.Order.{≤-of-<}
 use Rattle.plane.specs.Plane.{Pair, Point, det, left, right, Interval, Inside, Closed}
 use Rattle.plane.specs.Inclusion.{Included, closed?, same?, included?}
-use Rattle.plane.proofs.InclusionSigns.{Turn, Kept, keep-equal, keep-u, keep-v, Mixture, kept-closed, kept-inside, Off, off-left, off-right, off-round}
-use Rattle.plane.proofs.InclusionTests.{closed-says, not-closed-says, same-zero, zero-same, Judged, left-out, right-out, equal, u-out, v-out, round, judge}
+use Rattle.plane.proofs.InclusionSigns.{EndsIn, Kept, keep-equal, keep-u, keep-v, Mixture, kept-closed, kept-inside, Off, off-left, off-right, off-round}
+use Rattle.plane.proofs.InclusionTests.{same-zero, zero-same, Judged, left-out, right-out, equal, u-out, v-out, round, judge}
+pub use Rattle.plane.proofs.InclusionTests.{closed-says, says-closed, not-closed, not-closed-says, same-says, says-same}
 
 -- the four numbers: det(x, v), det(u, x), det(y, v), det(u, y)
 abbrev Seen : (ℤ → ℤ → ℤ → ℤ → Type 0) → List ℤ → List ℤ → Type 0
@@ -34,14 +35,16 @@ flip x y = law 4 (λ x0 x1 y0 y1. Det x0 x1 y0 y1 ≗ ⊝ Det y0 y1 x0 x1) tt (x
 
 -- ---- what the test's answer says of the four numbers
 
--- the turn is det(x, y)·det(u, v), a product of two numbers below 0
-turns : {i j : List ℤ} → Interval i → Interval j → Seen Turn i j
-turns {i} {j} p q = record {
+-- det(x, v)·det(u, y) − det(y, v)·det(u, x) is det(x, y)·det(u, v), a product of two numbers below 0
+ends-in : {i j : List ℤ} → Interval i → Interval j → Closed j (left i) → Closed j (right i) → Seen EndsIn i j
+ends-in {i} {j} p q l r = record {
   turn =
       claim 8 (λ x0 x1 y0 y1 u0 u1 v0 v1.
       Det x0 x1 y0 y1 ≺ # 0 ⇒ Det u0 u1 v0 v1 ≺ # 0 ⇒ # 0 ≺ Det x0 x1 v0 v1 ⊗ Det u0 u1 y0 y1 ⊖ Det y0 y1 v0 v1 ⊗ Det u0 u1 x0 x1
       by h 0 ⊞ h 1 ⊠ h 2) tt
       (left i .z0) (left i .z1) (right i .z0) (right i .z1) (left j .z0) (left j .z1) (right j .z0) (right j .z1) (p .below) (q .below);
+  left-in = l .not-below;
+  right-in = r .not-below;
 }
 
 first-holds : (p q : Bool) → p && q ≡ true → p ≡ true
@@ -57,18 +60,19 @@ module _ {i j : List ℤ} (p : Interval i) (q : Interval j) where
   abbrev Tests : Bool → Type 0
   Tests = Judged (closed? j (left i)) (closed? j (right i)) (same? (left i) (left j) && same? (right i) (right j)) (closed? i (left j)) (closed? i (right j))
 
+  ends : closed? j (left i) ≡ true → closed? j (right i) ≡ true → Seen EndsIn i j
+  ends l r = ends-in p q (closed-says l) (closed-says r)
+
   answered : {b : Bool} → Tests b → Answer i j b
   answered (left-out l) = fails (off-left (not-closed-says j (left i) l))
   answered (right-out r) = fails (off-right (not-closed-says j (right i) r))
-  answered (equal l r e) = holds (keep-equal (turns p q) (closed-says l .not-below) (closed-says r .not-below)
+  answered (equal l r e) = holds (keep-equal (ends l r)
       (flip (left j) (left i) ∙ ap negℤ (same-zero (left i) (left j) (first-holds (same? (left i) (left j)) (same? (right i) (right j)) e))))
-  answered (u-out l r o) = holds (keep-u (turns p q) (closed-says l .not-below) (closed-says r .not-below)
+  answered (u-out l r o) = holds (keep-u (ends l r)
       (subst (λ t. (t *ℤ det (left j) (right i)) <ℤ pos 0) (flip (left i) (left j)) (not-closed-says i (left j) o)))
-  answered (v-out l r o) = holds (keep-v (turns p q) (closed-says l .not-below) (closed-says r .not-below)
+  answered (v-out l r o) = holds (keep-v (ends l r)
       (subst (λ t. (det (left i) (right j) *ℤ t) <ℤ pos 0) (flip (right j) (right i)) (not-closed-says i (right j) o)))
-  answered (round l r e u v) = fails (off-round (turns p q) record {
-    left-in = closed-says l .not-below;
-    right-in = closed-says r .not-below;
+  answered (round l r e u v) = fails (off-round (ends l r) record {
     u-in = subst (λ t. pos 0 ≤ℤ (t *ℤ det (left j) (right i))) (flip (left i) (left j)) (closed-says u .not-below);
     v-in = subst (λ t. pos 0 ≤ℤ (det (left i) (right j) *ℤ t)) (flip (right j) (right i)) (closed-says v .not-below);
     not-equal = λ b c. subst T (sym (ap₂ _&&_ (zero-same (left i) (left j) (flip (left i) (left j) ∙ ap negℤ b)) (zero-same (right i) (right j) c)) ∙ e) tt;
