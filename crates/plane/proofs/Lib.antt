@@ -5,3 +5,7 @@ pub mod Moves
 pub mod Points
 pub mod Ends
 pub mod Cancelling
+pub mod Inclusion
+pub mod InclusionSigns
+pub mod InclusionTests
+pub mod InclusionRuns
