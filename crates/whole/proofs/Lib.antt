@@ -10,3 +10,4 @@ pub mod Test
 pub mod Range
 pub mod Machine
 pub mod Divisor
+pub mod Worked
