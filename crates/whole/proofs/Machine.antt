@@ -1,5 +1,11 @@
--- From machine words to whole numbers. A signed local holds bits, so that goals show `toZ w64 (ofZ w64 z)`, the number z stored and read back.
--- Here is when a number fits, that it is then read back as it is, and what a test of two numbers says of them.
+-- From machine words to whole numbers.
+--
+-- A signed local holds bits, so that goals show `toZ w64 (ofZ w64 z)`: the number z, stored in 64 bits and read back. Every operation asks that its result fits
+-- (`SFits w64 z`). This file says when a number fits, that it is then read back as it is, and what casts do.
+-- The short way through an expression is `Stands b u z`: where the machine has u, the number z is meant, and z lies within b of 0. For `a * d - b * c` with four numbers
+-- within 1000, p = mul-stands (stored h1 tt) (stored h2 tt) tt and q likewise stand for the products, and `sub-ok p q tt` is what the difference asks. Each `tt` is a
+-- test on bounds, that they are below 2^63.
+-- Private: `mag-le`.
 use mathlib.Core.Path.{_≡_, refl, sym, ap₂, subst, subst₂, _∙_}
 use Prim.Native.Nat.{ℕ, _+_, _*_, _<_, _≤_, _^_}
 use native.Mathlib.Nat.{lt-of-le-of-lt, le-refl}

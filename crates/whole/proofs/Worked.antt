@@ -4,9 +4,8 @@
 --   the statement, in plain ℤ:                 (a b : ℤ) → (a +ℤ b) *ℤ .. ≡ ..
 --   the same, for the prover to read:          law 2 (λ a b. (a ⊕ b) ⊗ .. ≗ ..) tt
 -- The prover's half has a circled sign for each operation: ⊕ ⊖ ⊗, ⊝ a for −a, # 3 for the number 3; ≗ for an identity; in claims ≦, ≺, ≈ for ≤, <, =, and
--- `never` for a contradiction. The 2 counts the variables. `tt` is the test, which has to compute to true; the statement is then read off the expressions, so that
--- the two halves can't differ. What is proved here is used by nobody: it is here to be read, and it fails where a prover stops to work.
--- The signs come from proofs/Polynomial, Law, Certificate, Search and Claim, by the `use` lines below.
+-- `never` for a contradiction. The 2 counts the variables. `tt` stands for the test, which has to compute to true. The check compares the two halves, so they can't
+-- differ. The signs come by the `use` lines below. Nothing here is used by other files, and all names are private: it is here to be read, and to be checked.
 use mathlib.Core.Path.{_≡_, refl}
 use mathlib.Core.List.{[], _∷_}
 use Prim.Native.Nat.{ℕ, _+_, _*_, _≤_}
