@@ -1,10 +1,11 @@
 -- The laws of the order that proofs cite by name: three cases of two numbers, steps of 1, signs of products and of their factors, cancelling, and the way from
 -- natural numbers to whole numbers and back.
 --
--- Most are one `claim` each (proofs/Worked.antt explains how to read one), stated in plain ℤ. Their numbers are explicit, since what stands under a product is not
--- inferred: `cancel-less a b c p e`. Reflexivity, and a < b ≤ c, are in the kit's `lib.Signed` (`≤ℤ-refl`, `<ℤ-≤ℤ-trans`, `<ℤ-irrefl`, `clashℤ` for two facts that
--- can't both hold); a test that is passed or failed is in proofs/Test.antt; antisymmetry, `≤-antisym`, and the proofs by contradiction `≤-by` and `<-by` are in
--- proofs/Order.antt.
+-- Each is a `claim` or two (proofs/Worked.antt explains how to read one), stated in plain ℤ. A number that a hypothesis shows only under a product is not inferred, and
+-- is written: with p : pos 0 <ℤ a and e : (a *ℤ b) <ℤ (a *ℤ c), `cancel-< a b c p e : b <ℤ c`; but with q : b <ℤ pos 0, `ps-ng-mul p q : (a *ℤ b) <ℤ pos 0`.
+-- Elsewhere: ≤ is reflexive, < is not, and a < b ≤ c (`≤ℤ-refl`, `<ℤ-irrefl`, `<ℤ-≤ℤ-trans`, and `clashℤ` for two facts that can't both hold) in the kit's `lib.Signed`;
+-- antisymmetry (`≤-antisym`) and proofs by contradiction (`≤-by`, `<-by`) in proofs/Order.antt; what a test says in proofs/Test.antt.
+-- Private: the cases of `product-ps`, `product-ng` and `zero-product` (`turned-..`, `nought-..`, `factor-zero`).
 use mathlib.Core.Path.{_≡_, ap}
 use mathlib.Core.Logic.{_⊎_, inl, inr}
 use Prim.Native.Nat.{ℕ, _≤_, _<_}

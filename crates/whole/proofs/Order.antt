@@ -4,7 +4,7 @@
 --   a ≤ b exactly when b = a + n for a natural n       `gap`, `le-of-gap`
 --   a ≤ b exactly when 0 ≤ b − a, and so for <         `sub-of-le`, `le-of-sub`, `sub-of-lt`, `lt-of-sub`
 --   a < b or b ≤ a                                     `<-or-≥`, and from it the proofs by contradiction, `≤-by` and `<-by`
--- Names: `nn` is "not negative", `ps` is "positive". They write `a ≤ℤ (b +ℤ c)` with brackets, since the order binds tighter than the sum.
+-- Names: `nn` is "not negative", `ps` is "positive". Write `a ≤ℤ (b +ℤ c)` with brackets: the order binds tighter than the sum.
 -- Private: the names with ′, each the law of the same name on the tests, by the cases of two numbers. Laws that follow by a claim are in proofs/Cases.antt.
 use mathlib.Core.Path.{_≡_, sym, _∙_, ap, subst}
 use mathlib.Core.Bool.{Bool, true, false, not, cond}
