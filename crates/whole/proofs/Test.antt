@@ -1,7 +1,7 @@
 -- What a signed test says, and when it comes out so: `ltZ a b ≡ true` is a < b, `ltZ a b ≡ false` is b ≤ a, and so for `leZ`.
 --
 -- A branch of a proof hands out the equation; `lt-true`, `lt-false`, `le-true`, `le-false` read it. A contract that is an equation wants it made: `true-lt`, `false-lt`,
--- `true-le`, `false-le`. For instance, in the branch where `a < 0` was not taken: `lt-false _ _ (c .if1 .left) : pos 0 ≤ℤ a`.
+-- `true-le`, `false-le`. From e : ltZ a (pos 0) ≡ false, the branch where `a < 0` was not taken, `lt-false a (pos 0) e : pos 0 ≤ℤ a`.
 -- Private: what holds of any test, `yes` to `is-false`.
 use mathlib.Core.Path.{_≡_, refl, sym, subst}
 use mathlib.Core.Bool.{Bool, true, false, not}
