@@ -1,16 +1,24 @@
--- Inequalities of polynomials over ℤ, by certificates.
--- `a ≺ b ⇒ c ≦ d ⇒ g by w` states that the hypotheses entail g; w is a sum of products of the hypotheses (`h 1`, `h 2`, ..), of the goal's negation (`h 0`),
--- of naturals and squares, which is a contradiction by the ring laws.
+-- Certificates: why some inequalities of polynomials entail another, as a term that a test can check; and the proof that the test is right.
+--
+-- To show that facts entail a goal, add the goal's negation to them, and find a sum of products of them all that is impossible. Of 0 < a and 0 < a·b, to show 0 < b:
+-- `h 1 ⊠ h 0 ⊞ h 2`, where h 1 is the first fact, h 2 the second, and h 0 the negation b ≤ 0, read as 0 ≤ −b. It says a·(−b) + a·b, which is 0, and by the signs
+-- of its parts it is above 0. `proves facts goal certificate` is the test, by the normal form of proofs/Polynomial.antt, and `proves-ok` the theorem.
+-- A goal that is an equation takes a certificate of equations instead: a sum of multiples `e ⊡ h i` of facts that are equations.
+--
+-- What others name: the facts ≦ ≺ ≈ `never`, and the certificate's parts: `h i`, `num n` for a number, `sq e` for a square, ⊞ and ⊠ for sum and product, `e ⊡ c` for an
+-- equation times any expression, `dec c` for 0 ≤ x − 1 from 0 < x. The statements are written with proofs/Claim.antt. Private: the law of each part (`addS-ok`, ..).
 use mathlib.Core.Path.{_≡_, refl, sym, _∙_, ap, ap₂, subst}
 use mathlib.Core.Bool.{Bool, true, false, not}
 use mathlib.Core.List.{List, [], _∷_}
-use Prim.Native.Nat.{ℕ, zero, suc, _+_, _*_, _-_, _≤_, _<_}
+use Prim.Native.Nat.{ℕ, zero, suc, _≤_, _<_}
 use native.Mathlib.Omega.{arith}
-use lib.Dec.{T, leb, ltb, eqb, lt→ltb, le→leb, T-not, eqb→eq, eqb-refl}
-use lib.IntN.{ℤ, pos, negsuc, negℤ, _+ℤ_, _*ℤ_, _-ℤ_, +ℤ-idl, +ℤ-idr, zero-*ℤ, *ℤ-zero, *ℤ-comm}
-use lib.Signed.{leZ, ltZ, _≤ℤ_, _<ℤ_, leZ-yes, ltZ-yes, ltZ-no, clashℤ, <ℤ-irrefl, ≤ℤ-refl}
-use Rattle.whole.proofs.Polynomial.{E, var, con, _⊕_, _⊖_, _⊗_, ⊝_, eval, H, C, X, evalH, hd, tl, norm, norm-ok, isZ, isZ-ok, isZero, isZero-ok, and, and-l, and-r, same, ring}
+use lib.Dec.{T, lt→ltb, le→leb, T-not, eqb-refl}
+use lib.IntN.{ℤ, pos, negsuc, _+ℤ_, _*ℤ_, _-ℤ_, +ℤ-idl, +ℤ-idr, *ℤ-zero, *ℤ-comm}
+use lib.Signed.{leZ, ltZ, _≤ℤ_, _<ℤ_, leZ-yes, ltZ-yes, clashℤ, ≤ℤ-refl}
+use Rattle.whole.proofs.Polynomial.{E, con, _⊕_, _⊖_, _⊗_, eval, H, C, X, evalH, hd, tl, norm, norm-ok, isZ, isZero, isZero-ok, and, and-l, and-r}
 use Rattle.whole.proofs.Order.{sub-of-le, sub-of-lt, nn-add, nn-mul, ps-add, ps-mul, nn-sq, ps-dec, ≤-of-<, ≤-by, <-by}
+
+-- ---- facts and goals
 
 infix 5 _≦_ _≺_ _≈_
 pub data Atom : Type 0 where
@@ -25,7 +33,7 @@ Holds (a ≺ b) ρ = eval a ρ <ℤ eval b ρ
 Holds (a ≈ b) ρ = eval a ρ ≡ eval b ρ
 Holds never ρ = ⊥
 
--- what is known of a value's sign
+-- ---- what is known of the sign of a value: not negative, positive, or 0; and of sums and products
 pub data Sgn : Type 0 where
   nn ps zr : Sgn
 
@@ -48,6 +56,8 @@ mulS nn zr = zr
 mulS ps t = t
 mulS zr t = zr
 
+-- ---- certificates. Of each: the polynomial that it stands for (`poly`), and what is known of its sign (`sgn`)
+
 infixl 6 _⊞_
 infixl 7 _⊠_ _⊡_
 pub data Cert : Type 0 where
@@ -59,6 +69,7 @@ pub data Cert : Type 0 where
   _⊡_ : E → Cert → Cert
   dec : Cert → Cert
 
+-- a fact there is not is 0 ≤ 0
 abbrev pub nthA : List Atom → ℕ → Atom
 nthA [] i = con (pos 0) ≦ con (pos 0)
 nthA (a ∷ hs) zero = a
@@ -99,6 +110,7 @@ decP nn e = e
 decP ps e = e ⊖ con (pos 1)
 decP zr e = e
 
+-- e·p, where p is 0; else 0, so that the sign is right in any case
 abbrev pub anyP : Sgn → E → E → E
 anyP nn e p = con (pos 0)
 anyP ps e p = con (pos 0)
@@ -113,7 +125,7 @@ poly hs (c ⊠ d) = poly hs c ⊗ poly hs d
 poly hs (e ⊡ c) = anyP (sgn hs c) e (poly hs c)
 poly hs (dec c) = decP (sgn hs c) (poly hs c)
 
--- ---- soundness of a certificate
+-- ---- soundness: where the facts hold, the polynomial has that sign
 
 nn-pos : (n : ℕ) → pos 0 ≤ℤ pos n
 nn-pos n = leZ-yes (le→leb 0 n (e n))

@@ -1,13 +1,22 @@
--- Statements on ℤ, with what proves them: `a ≺ b ⇒ c ≦ d ⇒ g by w` with a certificate w, `.. ⇒ g from linear & w₁ & w₂` where it is found.
--- In w, `h 0` is the negation of the goal and `h 1`, `h 2`, .. the hypotheses, in order.
+-- Claims in one line. `claim n (λ a b ... fact ⇒ fact ⇒ goal from what) tt` proves that the facts entail the goal for all values of the n variables:
+--
+--   halves : (a b : ℤ) → (pos 2 *ℤ a) <ℤ (pos 2 *ℤ b +ℤ pos 1) → a ≤ℤ b
+--   halves = claim 2 (λ a b. # 2 ⊗ a ≺ # 2 ⊗ b ⊕ # 1 ⇒ a ≦ b from linear) tt
+--
+-- `from linear` searches among the facts and the goal's negation, `from quadratic` among their products of two as well (for up to six facts), and
+-- `from linear & h 1 ⊠ h 2 & ..` among the products that are named, which is quicker. `by c` takes the certificate c and searches nothing. In both `h 0` is the goal's
+-- negation, and `h 1`, `h 2`, .. are the facts in order. proofs/Worked.antt has an example of each form.
+-- What others name: `claim`, ⇒, `from`, `by`; `Fact` and `fact` for a claim whose type is the expressions themselves; `found` to see what the search found.
 use mathlib.Core.Bool.{Bool}
 use mathlib.Core.List.{List, [], _∷_}
-use Prim.Native.Nat.{ℕ, zero, suc}
+use Prim.Native.Nat.{ℕ}
 use lib.Dec.{T}
 use lib.IntN.{ℤ}
 use Rattle.whole.proofs.Law.{Fn, inst, All, all}
 use Rattle.whole.proofs.Certificate.{Atom, _≦_, _≺_, _≈_, never, Cert, Holds, AllH, snoc, snoc-ok, proves, proves-ok}
 use Rattle.whole.proofs.Search.{Hints, find, finds, finds-ok}
+
+-- ---- what is written
 
 infixr 3 _⇒_
 infix 4 _by_ _from_
@@ -15,6 +24,8 @@ pub data Seq : Type 0 where
   _⇒_ : Atom → Seq → Seq
   _by_ : Atom → Cert → Seq
   _from_ : Atom → Hints → Seq
+
+-- ---- the test, what is meant, and the theorem
 
 abbrev pub valid : List Atom → Seq → Bool
 valid hs (a ⇒ s) = valid (snoc hs a) s

@@ -1,20 +1,25 @@
--- The greatest common divisor: Euclid's step and its end, that it divides, that it is the greatest, and Bézout's numbers. Then four whole numbers: divided by
--- their greatest common divisor they have none but 1, and nothing else comes from them so.
-use mathlib.Core.Path.{_≡_, refl, sym, _∙_, ap, ap₂, subst}
+-- The greatest common divisor, of two natural numbers and of four whole numbers.
+--
+-- specs/Divisor.antt defines it by Euclid's steps. Here: it divides both, every common divisor divides it, Bézout's numbers, and Euclid's step as an equation.
+-- Then the four entries of a matrix: divided by their greatest common divisor they have none but 1 (`reduced`), and no other four numbers with that property have them as
+-- a multiple (`reduced-only`, `reduced-form`). `Times4 k n m` is k·n = m, entry by entry.
+-- Private: the laws by the number of steps (`by-..`), and those of one entry (`sizes`, `up`, `down`).
+use mathlib.Core.Path.{_≡_, sym, _∙_, ap, subst}
 use mathlib.Core.List.{List}
-use Prim.Native.Nat.{ℕ, zero, suc, _+_, _*_, _-_, _/_, _%_, _≤_, _<_, _∣_}
+use Prim.Native.Nat.{ℕ, zero, suc, _*_, _/_, _%_, _≤_, _<_, _∣_}
 use native.Mathlib.Nat as N
 use native.Mathlib.Omega.{arith}
 use lib.IntN.{ℤ, pos, negsuc, negℤ, natAbs, _+ℤ_, _*ℤ_, _-ℤ_}
 use lib.Signed.{quotZ}
-use Rattle.whole.specs.Range.{at, Near, Within}
+use Rattle.whole.specs.Range.{at}
 use Rattle.whole.specs.Divisor.{gcdBy, gcd, gcd4, divided, Divides4}
 use Rattle.whole.proofs.Ring.{mul-neg}
-use Rattle.whole.proofs.Polynomial.{E, _⊕_, _⊖_, _⊗_, ⊝_}
+use Rattle.whole.proofs.Polynomial.{_⊕_, _⊖_, _⊗_, ⊝_}
 use Rattle.whole.proofs.Law.{#, _≗_, law}
 use Rattle.whole.proofs.Certificate.{_≈_, h, _⊞_, _⊡_}
 use Rattle.whole.proofs.Claim.{_⇒_, _by_, claim}
-use Rattle.whole.proofs.Range.{natAbs-mul, natAbs-quot, natAbs-zero}
+use Rattle.whole.proofs.Cases.{cancel-pos, up<}
+use Rattle.whole.proofs.Range.{natAbs-mul, natAbs-zero}
 
 -- ---- two natural numbers
 
@@ -162,6 +167,16 @@ reduced m p =
     let g = gcd4 m in
     N.eq-of-mul-eq-mul-left g p (gcd4 (divided m g)) 1 (sym (gcd4-times p (divided-times (gcd4-divides m))) ∙ sym (N.mul-one g))
 
--- and the divisor that leaves none but 1 is the greatest: the reduced form is the only one
+-- and the divisor that leaves none but 1 is the greatest
 pub reduced-only : {k : ℕ} {n m : List ℤ} → 0 < k → Times4 k n m → gcd4 n ≡ 1 → k ≡ gcd4 m
 reduced-only {k} p t e = sym (N.mul-one k) ∙ ap (λ (j : ℕ). k * j) (sym e) ∙ sym (gcd4-times p t)
+
+-- so the four numbers are those that dividing gives: the reduced form is the only one
+pub reduced-form : {k : ℕ} {n m : List ℤ} → 0 < k → Times4 k n m → gcd4 n ≡ 1
+    → let d = divided m (gcd4 m) in (at n 0 ≡ at d 0) × (at n 1 ≡ at d 1) × (at n 2 ≡ at d 2) × (at n 3 ≡ at d 3)
+reduced-form {k} {n} {m} p t e =
+    let v = divided-times (gcd4-divides m) in
+    (once (t .t0) (v .t0), once (t .t1) (v .t1), once (t .t2) (v .t2), once (t .t3) (v .t3))
+  where
+    once : {x y z : ℤ} → Times k x z → Times (gcd4 m) y z → x ≡ y
+    once {x} {y} a b = cancel-pos (pos k) x y (up< p) (a .times ∙ sym (b .times) ∙ ap (λ (j : ℕ). pos j *ℤ y) (sym (reduced-only p t e)))

@@ -1,20 +1,30 @@
+-- Identities in one line. `law n (λ a b ... left ≗ right) tt` proves that left = right for all values of the n variables:
+--
+--   square : (a b : ℤ) → (a +ℤ b) *ℤ (a -ℤ b) ≡ a *ℤ a -ℤ b *ℤ b
+--   square = law 2 (λ a b. (a ⊕ b) ⊗ (a ⊖ b) ≗ a ⊗ a ⊖ b ⊗ b) tt
+--
+-- A law of up to twelve variables and degree 6 takes under a tenth of a second. What others name: `law`, `#`, `≗`; `Ident` and `by-ring` for an identity whose type
+-- is the expressions themselves; `left-over` to see why one is refused. proofs/Worked.antt has an example of each. `Fn`, `inst`, `All` and `all` serve
+-- proofs/Claim.antt too. Private: `says`.
 use mathlib.Core.Path.{_≡_}
 use mathlib.Core.Bool.{Bool, true, false}
 use mathlib.Core.List.{List, [], _∷_, _++_}
 use Prim.Native.Nat.{ℕ, zero, suc}
 use lib.Dec.{T}
 use lib.IntN.{ℤ, pos}
-use Rattle.whole.proofs.Polynomial.{E, var, con, _⊕_, _⊖_, _⊗_, ⊝_, eval, H, C, X, norm, isZ, same, ring}
+use Rattle.whole.proofs.Polynomial.{E, var, con, _⊖_, eval, H, C, X, norm, isZ, same, ring}
 
--- ---- laws written with bound variables
+-- ---- what is written: numbers, and equations between expressions
 
--- the numeral n
+-- the number n
 abbrev pub # : ℕ → E
 # n = con (pos n)
 
 infix 5 _≗_
 pub data Eqn : Type 0 where
   _≗_ : E → E → Eqn
+
+-- ---- variables by name: a statement in n variables is a function of n expressions, and is read at the first n variables of a list
 
 abbrev pub Fn : Type 0 → ℕ → Type 0
 Fn R zero = R
@@ -24,9 +34,12 @@ abbrev pub inst : (R : Type 0) (n k : ℕ) → Fn R n → R
 inst R zero k s = s
 inst R (suc n) k f = inst R n (suc k) (f (var k))
 
+-- for all values of n variables
 abbrev pub All : (n : ℕ) → (List ℤ → Type 0) → Type 0
 All zero P = P []
 All (suc n) P = (x : ℤ) → All n (λ ρ. P (x ∷ ρ))
+
+-- ---- the theorem
 
 abbrev pub Says : Eqn → List ℤ → Type 0
 Says (a ≗ b) ρ = eval a ρ ≡ eval b ρ
@@ -54,7 +67,7 @@ pub record Ident (n : ℕ) (f : Fn Eqn n) : Type 0 where
 pub by-ring : {n : ℕ} {f : Fn Eqn n} → T (test (inst Eqn n 0 f)) → Ident n f
 by-ring {n} {f} t = record { at = law n f t }
 
--- ---- to see why an identity is refused: state `left-over n (λ ..) ≡ []`, prove it by `refl`, and read the error
+-- ---- to see why an identity is refused: state `left-over n (λ ..) ≡ []`, prove it by `refl`, and read in the error what is left of the two sides
 
 -- a coefficient, and the exponents of the variables in order
 pub data Term : Type 0 where

@@ -1,16 +1,21 @@
--- From machine words to whole numbers. A signed local holds bits, so that goals show `toZ w64 (ofZ w64 z)`, the number z stored and read back.
--- Here is when a number fits, that it is then read back as it is, and what a test of two numbers says of them.
+-- From machine words to whole numbers.
+--
+-- A signed local holds bits, so that goals show `toZ w64 (ofZ w64 z)`: the number z, stored in 64 bits and read back. Every operation asks that its result fits
+-- (`SFits w64 z`). This file says when a number fits, that it is then read back as it is, and what casts do.
+-- The short way through an expression is `Stands b u z`: where the machine has u, the number z is meant, and z lies within b of 0. For `a * d - b * c` with four numbers
+-- within 1000, p = mul-stands (stored h1 tt) (stored h2 tt) tt and q likewise stand for the products, and `sub-ok p q tt` is what the difference asks. Each `tt` is a
+-- test on bounds, that they are below 2^63.
+-- Private: `mag-le`.
 use mathlib.Core.Path.{_≡_, refl, sym, ap₂, subst, subst₂, _∙_}
-use mathlib.Core.Bool.{Bool, true, false, not}
-use Prim.Native.Nat.{ℕ, zero, suc, _+_, _*_, _<_, _≤_, _^_}
+use Prim.Native.Nat.{ℕ, _+_, _*_, _<_, _≤_, _^_}
 use native.Mathlib.Nat.{lt-of-le-of-lt, le-refl}
 use native.Mathlib.Omega.{arith}
-use lib.Dec.{T, ltb, ltb→lt}
-use lib.IntN.{ℤ, pos, negsuc, negℤ, natAbs, _+ℤ_, _-ℤ_, _*ℤ_}
-use lib.Signed.{mag, ltZ, leZ, _≤ℤ_, _<ℤ_, leZ-yes, ltZ-yes, ltZ-no}
-use mir.Syntax.{w64}
-use mir.Val.{SFits, ofZ, toZ}
-use mir.Facts.{toZ-ofZ, toZ-pos}
+use lib.Dec.{T, ltb, ltb→lt, leb→le}
+use lib.IntN.{ℤ, pos, negsuc, natAbs, _+ℤ_, _-ℤ_, _*ℤ_}
+use lib.Signed.{mag, nonNeg, _≤ℤ_, natAbs-le, pos-natAbs, yes-nonNeg}
+use mir.Syntax.{Width, w16, w64}
+use mir.Val.{Fits, SFits, ofZ, toZ}
+use mir.Facts.{toZ-ofZ, toZ-pos, sfits-widen, fits-natAbs}
 use Rattle.whole.specs.Range.{Near}
 use Rattle.whole.proofs.Range.{near-mul, near-add, near-sub}
 
@@ -35,6 +40,50 @@ ok-back h = toZ-ofZ (record { sfits = h })
 
 pub back-of : (z : ℤ) → mag z < 2 ^ 63 → toZ w64 (ofZ w64 z) ≡ z
 back-of z h = ok-back h
+
+-- ---- casts
+
+-- from one signed width to another, of a number that both hold: the need (`cast-fits`), and what is read after it. An i16 made an i64 is `cast-back f (sfits-widen tt f)`
+pub cast-fits : {w w′ : Width} {z : ℤ} → SFits w z → SFits w′ z → SFits w′ (toZ w (ofZ w z))
+cast-fits {w} {w′} f g = subst (SFits w′) (sym (toZ-ofZ f)) g
+
+pub cast-back : {w w′ : Width} {z : ℤ} → SFits w z → SFits w′ z → toZ w′ (ofZ w′ (toZ w (ofZ w z))) ≡ z
+cast-back f g = toZ-ofZ (cast-fits f g) ∙ toZ-ofZ f
+
+-- i16 to i64: always
+pub widen-fits : {z : ℤ} → SFits w16 z → SFits w64 (toZ w16 (ofZ w16 z))
+widen-fits f = cast-fits f (sfits-widen tt f)
+
+pub widen-back : {z : ℤ} → SFits w16 z → toZ w64 (ofZ w64 (toZ w16 (ofZ w16 z))) ≡ z
+widen-back f = cast-back f (sfits-widen tt f)
+
+-- i64 to i16: of a number that an i16 holds
+pub narrow-fits : {z : ℤ} → SFits w16 z → SFits w16 (toZ w64 (ofZ w64 z))
+narrow-fits f = cast-fits (sfits-widen tt f) f
+
+pub narrow-back : {z : ℤ} → SFits w16 z → toZ w16 (ofZ w16 (toZ w64 (ofZ w64 z))) ≡ z
+narrow-back f = cast-back (sfits-widen tt f) f
+
+-- which numbers an i16 holds: −32768 to 32767. `element-16` is for an element of a slice, of which the check hands out the bound as `.given`
+pub element-16 : (z : ℤ) → mag z < 2 ^ 15 → SFits w16 z
+element-16 z h = record { sfits = h }
+
+pub near-16 : {z : ℤ} → SFits w16 z → Near 32768 z
+near-16 {z} f = record { near = natAbs-le z (f .sfits) }
+
+pub near-fits-16 : {b : ℕ} {z : ℤ} → Near b z → T (ltb b (2 ^ 15)) → SFits w16 z
+near-fits-16 {b} {z} h t = record { sfits = lt-of-le-of-lt (mag-le z) (lt-of-le-of-lt (h .near) (ltb→lt b (2 ^ 15) t)) }
+
+pub fits-16 : (z : ℤ) → negsuc 32767 ≤ℤ z → z ≤ℤ pos 32767 → SFits w16 z
+fits-16 (pos n) p q = record { sfits = omega (arith, leb→le n 32767 (q .le)) }
+fits-16 (negsuc n) p q = record { sfits = omega (arith, leb→le n 32767 (p .le)) }
+
+-- i64 to u64: of a number that is not negative. The cast's result is `natAbs` of what is read
+pub unsigned-ok : {z : ℤ} → SFits w64 z → pos 0 ≤ℤ z → T (nonNeg (toZ w64 (ofZ w64 z))) × Fits w64 (natAbs (toZ w64 (ofZ w64 z)))
+unsigned-ok {z} f p = rw (toZ-ofZ f) (yes-nonNeg p, fits-natAbs tt f)
+
+pub unsigned-back : {z : ℤ} → SFits w64 z → pos 0 ≤ℤ z → pos (natAbs (toZ w64 (ofZ w64 z))) ≡ z
+unsigned-back {z} f p = rw (toZ-ofZ f) (pos-natAbs z (yes-nonNeg p))
 
 -- ---- what the machine holds in place of a number: u stands for z, which lies within b of 0.
 -- One law for each operation: what is asked of it (`mul-ok`), and what it then holds (`mul-stands`)

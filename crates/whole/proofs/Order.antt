@@ -1,14 +1,21 @@
--- The order of ℤ: by differences, sums and products.
-use mathlib.Core.Path.{_≡_, refl, sym, _∙_, ap, ap₂, subst}
+-- The order of ℤ, from the ground: what proofs/Certificate.antt needs to be sound, and a few laws that others cite.
+--
+-- `_≤ℤ_` and `_<ℤ_` are the kit's (`lib.Signed`): records over tests that compute. Three views of them are linked here:
+--   a ≤ b exactly when b = a + n for a natural n       `gap`, `le-of-gap`
+--   a ≤ b exactly when 0 ≤ b − a, and so for <         `sub-of-le`, `le-of-sub`, `sub-of-lt`, `lt-of-sub`
+--   a < b or b ≤ a                                     `<-or-≥`, and from it the proofs by contradiction, `≤-by` and `<-by`
+-- Names: `nn` is "not negative", `ps` is "positive". Write `a ≤ℤ (b +ℤ c)` with brackets: the order binds tighter than the sum.
+-- Private: the names with ′, each the law of the same name on the tests, by the cases of two numbers. Laws that follow by a claim are in proofs/Cases.antt.
+use mathlib.Core.Path.{_≡_, sym, _∙_, ap, subst}
 use mathlib.Core.Bool.{Bool, true, false, not, cond}
 use mathlib.Core.Logic.{_⊎_, inl, inr}
 use Prim.Native.Nat.{ℕ, zero, suc, _+_, _*_, _-_, _≤_, _<_}
 use native.Mathlib.Nat as N
 use native.Mathlib.Omega.{arith}
-use lib.Dec.{T, leb, ltb, eqb, eqb→eq, ltb→lt, lt→ltb, le→leb, leb→le, nltb→le}
-use lib.IntN.{ℤ, pos, negsuc, sucℤ, predℤ, negℤ, subℕ, _+ℤ_, _*ℤ_, _-ℤ_, +ℤ-idl, +ℤ-idr, +ℤ-assoc, +ℤ-comm, +ℤ-invr, +ℤ-invl, -ℤ-one, zero-*ℤ, *ℤ-zero, *ℤ-comm, negℤ-+ℤ, negℤ-negℤ, +ℤ-negℤ-cancel, -ℤ-+ℤ-cancel}
-use lib.Signed.{leZ, ltZ, _≤ℤ_, _<ℤ_, leZ-yes, ltZ-yes, ltZ-no, ≤ℤ-refl, <ℤ-≤ℤ-trans, <ℤ-irrefl, clashℤ}
-use Rattle.whole.proofs.Polynomial.{E, var, con, _⊕_, _⊖_, _⊗_, ⊝_}
+use lib.Dec.{T, ltb, ltb→lt, lt→ltb, le→leb, leb→le}
+use lib.IntN.{ℤ, pos, negsuc, _+ℤ_, _*ℤ_, _-ℤ_, +ℤ-idl, +ℤ-idr, +ℤ-assoc, +ℤ-invl, -ℤ-one}
+use lib.Signed.{leZ, ltZ, _≤ℤ_, _<ℤ_, ltZ-yes, ltZ-no, <ℤ-irrefl, clashℤ}
+use Rattle.whole.proofs.Polynomial.{con, _⊕_, _⊖_}
 use Rattle.whole.proofs.Law.{_≗_, law}
 
 cond-ind : (c : Bool) (x y : ℤ) (P : ℤ → Type 0) → (T c → P x) → (T (not c) → P y) → P (cond c x y)
@@ -19,7 +26,9 @@ cond-ind false x y P f g = g tt
 
 neg-diff : (b k : ℕ) → negsuc (b + k) +ℤ pos k ≡ negsuc b
 neg-diff b zero = +ℤ-idr (negsuc (b + zero)) ∙ ap negsuc (N.add-zero b)
-neg-diff b (suc k) = ap (λ w. w +ℤ pos (suc k)) (ap negsuc (N.add-suc b k)) ∙ +ℤ-assoc (negsuc b) (negsuc k) (pos (suc k)) ∙ ap (λ w. negsuc b +ℤ w) (+ℤ-invl (pos (suc k))) ∙ +ℤ-idr (negsuc b)
+neg-diff b (suc k) =
+    ap (λ w. w +ℤ pos (suc k)) (ap negsuc (N.add-suc b k)) ∙ +ℤ-assoc (negsuc b) (negsuc k) (pos (suc k))
+    ∙ ap (λ w. negsuc b +ℤ w) (+ℤ-invl (pos (suc k))) ∙ +ℤ-idr (negsuc b)
 
 gap′ : (a b : ℤ) → T (leZ a b) → (n : ℕ) × (b ≡ a +ℤ pos n)
 gap′ (pos a) (pos b) t = (b - a, ap pos (e a b (leb→le a b t)))
@@ -52,7 +61,7 @@ le-up a n = record { le = up′ a n }
 pub le-of-gap : {a b : ℤ} (n : ℕ) → b ≡ a +ℤ pos n → a ≤ℤ b
 le-of-gap {a} {b} n e = subst (λ z. a ≤ℤ z) (sym e) (le-up a n)
 
--- ---- a ≤ b exactly when 0 ≤ b - a
+-- ---- a ≤ b exactly when 0 ≤ b − a
 
 pub sub-of-le : {a b : ℤ} → a ≤ℤ b → pos 0 ≤ℤ (b -ℤ a)
 sub-of-le {a} {b} h = let g = gap h in le-of-gap (g .0) (ap (λ w. w -ℤ a) (g .1) ∙ law 2 (λ a n. a ⊕ n ⊖ a ≗ con (pos 0) ⊕ n) tt a (pos (g .0)))
@@ -60,7 +69,7 @@ sub-of-le {a} {b} h = let g = gap h in le-of-gap (g .0) (ap (λ w. w -ℤ a) (g 
 pub le-of-sub : {a b : ℤ} → pos 0 ≤ℤ (b -ℤ a) → a ≤ℤ b
 le-of-sub {a} {b} h = let g = gap h in le-of-gap (g .0) (law 2 (λ a b. b ≗ a ⊕ (b ⊖ a)) tt a b ∙ ap (λ w. a +ℤ w) (g .1 ∙ +ℤ-idl (pos (g .0))))
 
--- ---- not negative and positive: products
+-- ---- sums, products and squares of numbers that are not negative, or positive
 
 nn-mul′ : (a b : ℤ) → T (leZ (pos 0) a) → T (leZ (pos 0) b) → T (leZ (pos 0) (a *ℤ b))
 nn-mul′ (pos a) (pos b) s t = le→leb 0 (a * b) (e (a * b))
@@ -101,7 +110,7 @@ sq′ (negsuc a) = le→leb 0 (suc a * suc a) (e (suc a * suc a))
     e : (x : ℕ) → 0 ≤ x
     e x = omega arith
 
--- 0 < z exactly when 0 ≤ z - 1
+-- 0 ≤ z − 1 from 0 < z
 dec′ : (z : ℤ) → T (ltZ (pos 0) z) → T (leZ (pos 0) (z -ℤ pos 1))
 dec′ (pos zero) t = absurd t
 dec′ (pos (suc n)) t = subst (λ z. T (leZ (pos 0) z)) (sym (-ℤ-one (pos (suc n)))) (le→leb 0 n (e n))
@@ -128,6 +137,8 @@ nn-sq a = record { le = sq′ a }
 pub ps-dec : {a : ℤ} → pos 0 <ℤ a → pos 0 ≤ℤ (a -ℤ pos 1)
 ps-dec {a} h = record { le = dec′ a (h .lt) }
 
+-- ---- two orders, and proofs by contradiction
+
 le-of-lt′ : (a b : ℤ) → T (ltZ a b) → T (leZ a b)
 le-of-lt′ (pos a) (pos b) t = le→leb a b (N.le-of-lt (ltb→lt a b t))
 le-of-lt′ (pos a) (negsuc b) t = t
@@ -152,6 +163,8 @@ pub ≤-by : {a b : ℤ} → (b <ℤ a → ⊥) → a ≤ℤ b
 pub <-by : {a b : ℤ} → (b ≤ℤ a → ⊥) → a <ℤ b
 <-by {a} {b} f = elim (<-or-≥ a b) [ inl h ↦ h | inr h ↦ absurd (f h) ]
 
+-- ---- a < b exactly when 0 < b − a
+
 pub sub-of-lt : {a b : ℤ} → a <ℤ b → pos 0 <ℤ (b -ℤ a)
 sub-of-lt {a} {b} h = <-by (λ k. clashℤ h (le-of-sub (subst (λ z. pos 0 ≤ℤ z) (e a b) (sub-of-le k))))
   where
@@ -164,12 +177,16 @@ lt-of-sub {a} {b} h = <-by (λ k. <ℤ-irrefl (subst (λ z. pos 0 <ℤ z) (e a b
     e : (a b : ℤ) → (b -ℤ a) +ℤ (a -ℤ b) ≡ pos 0
     e = law 2 (λ a b. (b ⊖ a) ⊕ (a ⊖ b) ≗ con (pos 0)) tt
 
+-- ---- antisymmetry
+
 pub ≤-antisym : {a b : ℤ} → a ≤ℤ b → b ≤ℤ a → a ≡ b
 ≤-antisym {a} {b} h k = go (gap h .0) (gap h .1)
   where
     go : (n : ℕ) → b ≡ a +ℤ pos n → a ≡ b
     go zero e = sym (e ∙ +ℤ-idr a)
-    go (suc n) e = clashℤ (lt-of-sub {a = a} {b = b} (subst (λ z. pos 0 <ℤ z) (sym (ap (λ w. w -ℤ a) e ∙ law 2 (λ a n. a ⊕ n ⊖ a ≗ n) tt a (pos (suc n)))) (ltZ-yes (lt→ltb 0 (suc n) (p n))))) k
+    go (suc n) e =
+        let d : b -ℤ a ≡ pos (suc n) = ap (λ w. w -ℤ a) e ∙ law 2 (λ a n. a ⊕ n ⊖ a ≗ n) tt a (pos (suc n)) in
+        clashℤ (lt-of-sub {a = a} {b = b} (subst (λ z. pos 0 <ℤ z) (sym d) (ltZ-yes (lt→ltb 0 (suc n) (p n))))) k
       where
         p : (n : ℕ) → 0 < suc n
         p n = omega arith

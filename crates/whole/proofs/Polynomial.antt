@@ -1,11 +1,22 @@
--- A reflective solver for identities of ℤ: expressions, their Horner normal form, soundness.
+-- Identities of ℤ by computation: expressions, a normal form for them, and the proof that it keeps their value.
+--
+-- `E` is the type of expressions, and `eval e ρ` the value of one where the list ρ has the values of its variables. With `var 0` for a, (a + 1)·a is
+-- `(var 0 ⊕ con (pos 1)) ⊗ var 0`; nobody writes it so, since `law` (proofs/Law.antt) lets the variables be named.
+-- `H` is the normal form, Horner's: a number `C z`, or `X p q`, which is p + a·q, where a is the first variable and p has only those after it. So 3 + 2a is
+-- `X (C 3) (C 2)`, and a² is `X (C 0) (X (C 0) (C 1))`, the numbers being `pos 3`, `pos 2`, ..
+-- Two expressions have one value for all numbers if the normal form of their difference is 0: `same` computes that, and `ring` is the theorem.
+--
+-- Whatever computes is an `abbrev`, so that a test comes out as true, and `tt` proves it, in every crate. All of it is public for that reason; what others should name
+-- are E, its signs ⊕ ⊖ ⊗ ⊝, and `con`. Private: the law that each operation keeps the value (`add-ok`, `mul-ok`, ..).
 use mathlib.Core.Path.{_≡_, refl, sym, _∙_, ap, ap₂}
 use mathlib.Core.Bool.{Bool, true, false}
-use mathlib.Core.List.{List, [], _∷_, _++_}
+use mathlib.Core.List.{List, [], _∷_}
 use Prim.Native.Nat.{ℕ, zero, suc}
 use lib.Dec.{T, eqb, eqb→eq}
-use lib.IntN.{ℤ, pos, negsuc, negℤ, _+ℤ_, _*ℤ_, _-ℤ_, +ℤ-idl, +ℤ-idr, +ℤ-assoc, +ℤ-comm, +ℤ-invr, +ℤ-invl, zero-*ℤ, *ℤ-zero, *ℤ-comm, negℤ-+ℤ, -ℤ-+ℤ-cancel}
-use Rattle.whole.proofs.Ring.{distrib-l, distrib-r, *ℤ-assoc, neg-mul, mul-neg, one-*ℤ, interchange, mul-left-comm, swap-r}
+use lib.IntN.{ℤ, pos, negsuc, negℤ, _+ℤ_, _*ℤ_, +ℤ-idl, +ℤ-idr, +ℤ-assoc, +ℤ-comm, zero-*ℤ, *ℤ-zero, *ℤ-comm, negℤ-+ℤ, -ℤ-+ℤ-cancel}
+use Rattle.whole.proofs.Ring.{distrib-l, distrib-r, *ℤ-assoc, mul-neg, one-*ℤ, interchange, mul-left-comm, swap-r}
+
+-- ---- expressions and their values
 
 infixl 6 _⊕_ _⊖_
 infixl 7 _⊗_
@@ -39,7 +50,7 @@ eval (a ⊕ b) ρ = eval a ρ +ℤ eval b ρ
 eval (a ⊗ b) ρ = eval a ρ *ℤ eval b ρ
 eval (⊝ a) ρ = negℤ (eval a ρ)
 
--- ---- Horner form: `X p q` is p + x q, with x the first variable, which p does not have
+-- ---- the normal form and its value: the variables after the first are the rest of the list
 pub data H : Type 0 where
   C : ℤ → H
   X : H → H → H
@@ -48,6 +59,9 @@ abbrev pub evalH : H → List ℤ → ℤ
 evalH (C z) ρ = z
 evalH (X p q) ρ = evalH p (tl ρ) +ℤ hd ρ *ℤ evalH q ρ
 
+-- ---- the operations on normal forms
+
+-- p + a·q, without the a where q is 0 and p a number
 abbrev pub mkX : H → H → H
 mkX p (X a b) = X p (X a b)
 mkX p (C (negsuc n)) = X p (C (negsuc n))
@@ -55,6 +69,7 @@ mkX p (C (pos (suc n))) = X p (C (pos (suc n)))
 mkX (C a) (C (pos zero)) = C a
 mkX (X u v) (C (pos zero)) = X (X u v) (C (pos zero))
 
+-- z + h
 abbrev pub addc : ℤ → H → H
 addc z (C b) = C (z +ℤ b)
 addc z (X p q) = X (addc z p) q
@@ -68,6 +83,7 @@ abbrev pub neg : H → H
 neg (C a) = C (negℤ a)
 neg (X p q) = X (neg p) (neg q)
 
+-- c·h, and (`mulc`) 0 itself where c is 0
 abbrev pub scale : ℤ → H → H
 scale c (C a) = C (c *ℤ a)
 scale c (X p q) = X (scale c p) (scale c q)
@@ -77,6 +93,7 @@ mulc (pos zero) h = C (pos zero)
 mulc (pos (suc n)) h = scale (pos (suc n)) h
 mulc (negsuc n) h = scale (negsuc n) h
 
+-- a product with something that has not the first variable: f multiplies what is under that variable
 abbrev pub mulL : (H → H) → H → H
 mulL f (C b) = mkX (f (C b)) (C (pos zero))
 mulL f (X p q) = mkX (f p) (mulL f q)
@@ -96,6 +113,8 @@ norm (a ⊕ b) = add (norm a) (norm b)
 norm (a ⊗ b) = mul (norm a) (norm b)
 norm (⊝ a) = neg (norm a)
 
+-- ---- is it 0?
+
 abbrev pub isZ : ℤ → Bool
 isZ (pos n) = eqb n 0
 isZ (negsuc n) = false
@@ -108,7 +127,7 @@ abbrev pub isZero : H → Bool
 isZero (C z) = isZ z
 isZero (X p q) = and (isZero p) (isZero q)
 
--- ---- soundness
+-- ---- soundness: each operation keeps the value
 
 mkX-ok : (p q : H) (ρ : List ℤ) → evalH (mkX p q) ρ ≡ evalH p (tl ρ) +ℤ hd ρ *ℤ evalH q ρ
 mkX-ok p (X a b) ρ = refl
@@ -195,7 +214,8 @@ isZero-ok (X p q) t ρ =
     ap₂ (λ a b. a +ℤ hd ρ *ℤ b) (isZero-ok p (and-l (isZero p) (isZero q) t) (tl ρ)) (isZero-ok q (and-r (isZero p) (isZero q) t) ρ)
     ∙ +ℤ-idl (hd ρ *ℤ pos zero) ∙ *ℤ-zero (hd ρ)
 
--- the test that decides an identity
+-- ---- the test that decides an identity, and the theorem
+
 abbrev pub same : E → E → Bool
 same a b = isZero (norm (a ⊖ b))
 

@@ -1,9 +1,13 @@
--- Magnitudes of sums, products and quotients, and what they say of ranges. A number within b of 0 fits a word as soon as `ltb b (2 ^ 63)` computes to true:
--- the `tt` that callers write is that computation.
-use mathlib.Core.Path.{_≡_, refl, sym, ap, subst}
+-- Magnitudes of sums, products and quotients, and what they say of ranges.
+--
+-- `Near b z` (specs/Range.antt) is −b ≤ z ≤ b. Ranges add and multiply as the numbers do: from h : Near 100 x and k : Near 1000 y,
+-- `near-add (near-mul h k) h : Near (100 * 1000 + 100) (x *ℤ y +ℤ x)`, and `near-le .. tt` for a wider range: the `tt` is the test that the one bound is at most the
+-- other.
+-- Private: `difference`.
+use mathlib.Core.Path.{_≡_, refl, ap}
 use mathlib.Core.Bool.{Bool, true, false, cond}
 use mathlib.Core.List.{List}
-use Prim.Native.Nat.{ℕ, zero, suc, _+_, _-_, _*_, _/_, _≤_, _<_}
+use Prim.Native.Nat.{ℕ, zero, suc, _+_, _-_, _*_, _/_, _≤_}
 use native.Mathlib.Nat.{le-refl, le-trans, mul-le-mul, div-le-self}
 use native.Mathlib.Omega.{arith}
 use lib.Dec.{T, ltb, leb, leb→le}

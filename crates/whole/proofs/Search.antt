@@ -1,19 +1,26 @@
--- Certificates found by the simplex method, each monomial taken for an unknown. Nothing is proved of the search: a certificate that it finds is tested.
--- A row `row k p bs` says  p + Σ bs[j] s[j] = 0,  where s[j] is the polynomial of the j-th fact: at least 0, or 0 itself where that fact is an equation. The monomials
--- are eliminated first, so that p is a number; then s[k] is the row's basic unknown, with bs[k] above 0. A row with p above 0 and no bs[j] below 0 is a contradiction.
-use mathlib.Core.Path.{_≡_, refl, sym, _∙_, ap}
-use mathlib.Core.Bool.{Bool, true, false, not, cond}
+-- A search for certificates. Nothing is proved of it, and nothing need be: what it finds goes through the test of proofs/Certificate.antt.
+--
+-- Each fact is a polynomial that is at least 0 (or 0 itself). Take every monomial for an unknown of its own: then a contradiction among the facts is one of linear
+-- algebra, a sum of them, each taken some number of times, in which all monomials fall out and a number is left that should not be. The simplex method finds it.
+-- A row `row k p bs` says that p + Σ bs[j]·s[j] = 0, where s[j] is the j-th fact's polynomial. `gauss` eliminates the monomials, so that p is a number; then s[k] is the
+-- row's basic unknown, with bs[k] above 0, and `simplex` exchanges basic unknowns. A row with p above 0 and no bs[j] below 0 is the contradiction.
+--
+-- What others name: `linear`, `quadratic` and `&`, which say what products of facts to search among: `from linear & h 1 ⊠ h 2`. All else serves `find`. It is public,
+-- and each function an `abbrev`, since it runs wherever a claim is checked. For that reason the gcd of specs/Divisor.antt is not used for rows: it is shut in other
+-- modules, so that contracts which name it stay short, and would not compute there.
+use mathlib.Core.Bool.{Bool, true, false, cond}
 use mathlib.Core.List.{List, [], _∷_, _++_}
 use mathlib.Core.Option.{Option, none, some}
-use Prim.Native.Nat.{ℕ, zero, suc, _+_, _*_, _-_, _%_, _/_}
+use Prim.Native.Nat.{ℕ, zero, suc, _%_}
 use lib.Dec.{T, ltb, eqb}
 use lib.IntN.{ℤ, pos, negsuc, negℤ, natAbs, _+ℤ_, _*ℤ_}
-use lib.Signed.{_≤ℤ_, _<ℤ_, quotZ}
-use Rattle.whole.proofs.Polynomial.{E, con, _⊕_, _⊖_, _⊗_, ⊝_, eval, H, C, X, norm, add, neg, scale, isZ, isZero, and, and-l, and-r}
+use lib.Signed.{quotZ}
+use Rattle.whole.proofs.Polynomial.{con, H, C, X, nth, norm, add, neg, scale, isZ, and, and-l, and-r}
 use Rattle.whole.proofs.Order.{≤-antisym}
-use Rattle.whole.proofs.Certificate.{Atom, _≦_, _≺_, _≈_, never, Holds, Sgn, nn, ps, zr, Cert, h, num, _⊞_, _⊠_, _⊡_, dec, sgn, poly, lead, proves, proves-ok, AllH}
+use Rattle.whole.proofs.Certificate.{Atom, _≦_, _≺_, _≈_, never, Holds, AllH, isZr, proves, proves-ok, lead}
+use Rattle.whole.proofs.Certificate.{Sgn, nn, ps, zr, Cert, h, num, _⊞_, _⊠_, _⊡_, dec, sgn, poly}
 
--- ---- places of monomials
+-- ---- the monomials of a normal form, by their place in it
 
 abbrev pub Place : Type 0
 Place = List Bool
@@ -37,6 +44,7 @@ coef (true ∷ π) (X p q) = coef π q
 pub data Row : Type 0 where
   row : ℕ → H → List ℤ → Row
 
+-- rows are divided by the greatest common divisor of their numbers, to keep these small
 abbrev pub gcdF : ℕ → ℕ → ℕ → ℕ
 gcdF zero a b = a
 gcdF (suc k) a zero = a
@@ -94,11 +102,6 @@ gauss (suc n) (row k p bs ∷ rs) = elim (key p false) [ none ↦ row k p bs ∷
 
 -- ---- the simplex method. `eqs` says which facts are equations
 
-abbrev pub at : ℕ → List ℤ → ℤ
-at i [] = pos 0
-at zero (z ∷ zs) = z
-at (suc i) (z ∷ zs) = at i zs
-
 abbrev pub firstNeg : ℕ → List Bool → List ℤ → Option ℕ
 firstNeg i [] bs = none
 firstNeg i (e ∷ es) [] = none
@@ -132,7 +135,7 @@ negL (z ∷ zs) = negℤ z ∷ negL zs
 -- s[j] made basic in the row of s[i]
 abbrev pub pivot : ℕ → ℕ → H → List ℤ → List Row → List Row
 pivot i j p bs [] = []
-pivot i j p bs (row k q cs ∷ rs) = cond (eqb k i) (row j p bs) (clear (at j bs) p bs (at j cs) k q cs) ∷ pivot i j p bs rs
+pivot i j p bs (row k q cs ∷ rs) = cond (eqb k i) (row j p bs) (clear (nth j bs) p bs (nth j cs) k q cs) ∷ pivot i j p bs rs
 
 abbrev pub simplex : ℕ → List Bool → List Row → Option (List ℤ)
 simplex zero es rs = none
@@ -148,12 +151,8 @@ decC nn c = c
 decC ps c = dec c
 decC zr c = c
 
-abbrev pub isZr : Sgn → Bool
-isZr nn = false
-isZr ps = false
-isZr zr = true
+-- ---- what to multiply: `linear & h 1 ⊠ h 2 & ..`
 
--- what to multiply: `linear & h 1 ⊠ h 2 & ..`
 infixl 5 _&_
 pub data Hints : Type 0 where
   linear : Hints
@@ -192,6 +191,7 @@ abbrev pub flags : List Atom → List Cert → List Bool
 flags hs [] = []
 flags hs (c ∷ cs) = isZr (sgn hs c) ∷ flags hs cs
 
+-- 1 at place i, else 0; after it a place that no list has
 abbrev pub units : ℕ → List Cert → List ℤ
 units i [] = []
 units zero (c ∷ cs) = pos 1 ∷ units 1000000 cs
@@ -216,6 +216,8 @@ total (e ∷ es) (b ∷ bs) (c ∷ cs) = times e b c (total es bs cs)
 abbrev pub cert : List Bool → List Cert → Option (List ℤ) → Cert
 cert es cs none = num 0
 cert es cs (some bs) = total es bs cs
+
+-- ---- the search, of the facts with the goal's negation before them: `num 0`, which proves nothing, where none is found
 
 abbrev pub find : List Atom → Hints → Cert
 find hs hn =

@@ -1,4 +1,8 @@
--- What a signed test says, and when it comes out so: `ltZ a b ≡ true` and a <ℤ b are the same thing, and so are `ltZ a b ≡ false` and b ≤ℤ a.
+-- What a signed test says, and when it comes out so: `ltZ a b ≡ true` is a < b, `ltZ a b ≡ false` is b ≤ a, and so for `leZ`.
+--
+-- A branch of a proof hands out the equation; `lt-true`, `lt-false`, `le-true`, `le-false` read it. A contract that is an equation wants it made: `true-lt`, `false-lt`,
+-- `true-le`, `false-le`. From e : ltZ a (pos 0) ≡ false, the branch where `a < 0` was not taken, `lt-false a (pos 0) e : pos 0 ≤ℤ a`.
+-- Private: what holds of any test, `yes` to `is-false`.
 use mathlib.Core.Path.{_≡_, refl, sym, subst}
 use mathlib.Core.Bool.{Bool, true, false, not}
 use lib.Dec.{T, T-not}
@@ -6,6 +10,8 @@ use lib.IntN.{ℤ}
 use lib.Signed.{ltZ, leZ, _≤ℤ_, _<ℤ_, leZ-yes, ltZ-yes, ltZ-no, clashℤ}
 use mathlib.Core.Logic.{inl, inr}
 use Rattle.whole.proofs.Order.{<-or-≥}
+
+-- ---- any test
 
 yes : {b : Bool} → b ≡ true → T b
 yes e = subst T (sym e) tt
@@ -24,6 +30,8 @@ is-false false f = refl
 not-le : (a b : ℤ) → T (not (leZ a b)) → b <ℤ a
 not-le a b t = elim (<-or-≥ b a) [ inl h ↦ h | inr h ↦ absurd (T-not (leZ a b) t (h .le)) ]
 
+-- ---- what a test says
+
 pub lt-true : (a b : ℤ) → ltZ a b ≡ true → a <ℤ b
 lt-true a b e = ltZ-yes (yes e)
 
@@ -35,6 +43,8 @@ le-true a b e = leZ-yes (yes e)
 
 pub le-false : (a b : ℤ) → leZ a b ≡ false → b <ℤ a
 le-false a b e = not-le a b (no e)
+
+-- ---- when a test comes out so
 
 pub true-lt : {a b : ℤ} → a <ℤ b → ltZ a b ≡ true
 true-lt {a} {b} h = is-true (ltZ a b) (h .lt)

@@ -1,5 +1,7 @@
--- Ranges of whole numbers, and lists of four of them: a matrix, or the two ends of an interval.
--- Ranges are records, so that their bound and their number are read off a hypothesis.
+-- Ranges of whole numbers. A list of four whole numbers is a matrix, or the two ends of an interval.
+--
+-- `at m 2` is the third number of m (0 where the list has none); `Near 100 z` says −100 ≤ z ≤ 100; `Within 100 m` says it of the four numbers of m. Both are records, so
+-- that a proof which has one need not be told its bound and its number. Their laws are in proofs/Range.antt.
 use mathlib.Core.List.{List}
 use Prim.Native.Nat.{ℕ, _≤_}
 use lib.ListN.{getD}

@@ -1,4 +1,4 @@
--- `whole::gcd` meets its contract: Euclid's end and his step, and the second number falls.
+-- `whole::gcd` meets its contract: Euclid's end and his step, and the second number, which is the measure `μ-gcd`, falls at each call.
 use mathlib.Core.Path.{sym, _∙_}
 use Prim.Native.Nat.{ℕ, _<_}
 use native.Mathlib.Nat.{mod-lt}
@@ -21,19 +21,19 @@ gcd-at t = and 0 gcd-kinds.ps (is 0 gcd-kinds.ps μ-gcd t) gcd.Pre
 abbrev gcd-below : ℕ → In 0 gcd-kinds.ps
 gcd-below t = and 0 gcd-kinds.ps (falls 0 gcd-kinds.ps _<_ μ-gcd t) gcd.Pre
 
--- src/lib.rt:31:35
+-- the remainder is by a number that is not 0
 gcd-rem-gcd : (t : ℕ) → gcd-lts.Need-rem-gcd (gcd-below t, gcd.Post) (gcd-at t) gcd.Post
 gcd-rem-gcd t c = omega arith
 
--- src/lib.rt:31:28
+-- the second number falls
 gcd-gcd-requires : (t : ℕ) → gcd-lts.Need-gcd-requires (gcd-below t, gcd.Post) (gcd-at t) gcd.Post
 gcd-gcd-requires t c κs = (omega (arith, c .before .pre .0, mod-lt (c .before .args .a) {m = c .before .args .b} (omega arith)), tt)
 
--- src/lib.rt:28:1
+-- the end
 gcd-returns : (t : ℕ) → gcd-lts.Need-returns (gcd-below t, gcd.Post) (gcd-at t) gcd.Post
 gcd-returns t c = sym (gcd-end _ _ (c .if1 .taken))
 
--- src/lib.rt:28:1
+-- the step
 gcd-returns-2 : (t : ℕ) → gcd-lts.Need-returns-2 (gcd-below t, gcd.Post) (gcd-at t) gcd.Post
 gcd-returns-2 t c = c .gcd .ensures ∙ gcd-step (c .before .before .args .a) (c .before .before .args .b)
 

@@ -1,16 +1,16 @@
 -- `whole::magnitude` meets its contract. A number a below 0 is −1 − n, where n, its `mag`, is below 2^63: so a + 1 is −n, its negation n, and 1 is added last.
 use mathlib.Core.Path.{_≡_, refl, sym, ap, subst, _∙_}
-use mathlib.Core.Bool.{true, false}
+use mathlib.Core.Bool.{true}
 use Prim.Native.Nat.{ℕ, zero, suc, _+_, _≤_}
 use native.Mathlib.Omega.{arith}
-use lib.Dec.{T}
 use borrow.Author.Tests.{ltb-true}
 use lib.IntN.{ℤ, pos, negsuc, negℤ, natAbs, _+ℤ_, _-ℤ_, +ℤ-one, +ℤ-idl, negℤ-negℤ}
-use lib.Signed.{mag, ltZ, yes-nonNeg}
+use lib.Signed.{mag, ltZ}
 use mir.Syntax.{w64}
 use mir.Val.{SFits, ofZ, toZ}
-use mir.Facts.{toZ-ofZ, fits-natAbs}
+use mir.Facts.{toZ-ofZ}
 use Rattle.whole.proofs.Test.{lt-false}
+use Rattle.whole.proofs.Machine.{unsigned-ok}
 use Rattle.whole.proofs.magnitude.Statement.{statement}
 use Rattle.whole.proofs.magnitude.Tie as tie
 
@@ -59,9 +59,7 @@ returns c = ap (λ z. natAbs z + 1) (held c) ∙ one-more (c .before .args .a) (
 -- ---- 0 or above
 
 cast-result-2 : tie.Need-cast-result-2
-cast-result-2 c =
-    rw (toZ-ofZ (c .before .fits .a))
-    (yes-nonNeg {z = c .before .args .a} (lt-false _ _ (simp (toZ-ofZ (c .before .fits .a)) at (c .if1 .left))), fits-natAbs tt (c .before .fits .a))
+cast-result-2 c = unsigned-ok (c .before .fits .a) (lt-false _ _ (simp (toZ-ofZ (c .before .fits .a)) at (c .if1 .left)))
 
 returns-2 : tie.Need-returns-2
 returns-2 c = ap natAbs (toZ-ofZ (c .before .fits .a))
