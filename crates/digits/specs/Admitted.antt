@@ -10,6 +10,8 @@ use Rattle.whole.specs.Range.{at, Within}
 use Rattle.whole.specs.Divisor.{Divides4}
 use Rattle.plane.specs.Plane.{Pair, Point, determinantOf, Interval, Closed}
 use Rattle.digits.specs.System.{transformationOf, intervalOf}
+use Rattle.digits.specs.declared.Admission.{Admission}
+use Rattle.digits.specs.declared.Admission.the-variants.{Admitted, WrongCount, OutOfRange, NotAbove, NotBelow, NotLowest, Uncovered}
 
 -- "every number lies in −100..100"
 pub record InRange (f w : List ℤ) : Type 0 where
@@ -45,3 +47,47 @@ pub record Admissible (n : ℕ) (rows : List ℤ) : Type 0 where
   pub few-digits : n ≤ 16
   pub digits : DigitsBelow rows n
   pub cover : (z : Pair) → Point z → Covers rows n z
+
+-- ---- when each answer is given
+
+-- Of one row, "6, 7, 8, 9", the first that applies: "6: a number is out of its range. 7: det F ≤ 0. 8: det W ≥ 0. 9: F or an end not in lowest terms."
+-- 3 and 10 are no answers about a row.
+abbrev pub RowCase : List ℤ → List ℤ → Admission → Type 0
+RowCase f w Admitted = Digit f w
+RowCase f w WrongCount = ⊥
+RowCase f w OutOfRange = InRange f w → ⊥
+RowCase f w NotAbove = InRange f w × (determinantOf f ≤ℤ pos 0)
+RowCase f w NotBelow = InRange f w × (pos 0 <ℤ determinantOf f) × (pos 0 ≤ℤ determinantOf w)
+RowCase f w NotLowest = InRange f w × (pos 0 <ℤ determinantOf f) × Interval w × (Lowest f w → ⊥)
+RowCase f w Uncovered = ⊥
+
+abbrev pub RowCaseAt : List ℤ → ℕ → Admission → Type 0
+RowCaseAt rows a v = RowCase (transformationOf rows a) (intervalOf rows a) v
+
+-- "row by row": the count is right, v is the answer about some row, and every row before it is a digit
+pub record FirstRow (n : ℕ) (rows : List ℤ) (v : Admission) : Type 0 where
+  pub some-digits : 1 ≤ n
+  pub few-digits : n ≤ 16
+  pub row : ℕ
+  pub below : row < n
+  pub before : DigitsBelow rows row
+  pub says : RowCaseAt rows row v
+
+-- "10: some point is in no closed interval", where the count is right and every row is a digit
+pub record Gap (n : ℕ) (rows : List ℤ) : Type 0 where
+  pub some-digits : 1 ≤ n
+  pub few-digits : n ≤ 16
+  pub digits : DigitsBelow rows n
+  pub z : Pair
+  pub point : Point z
+  pub in-none : Covers rows n z → ⊥
+
+-- Of a whole system: "3: a system has 0 or more than 16 digits", "row by row 6, 7, 8, 9; then 10", and admitted.
+abbrev pub SystemCase : ℕ → List ℤ → Admission → Type 0
+SystemCase n rows Admitted = Admissible n rows
+SystemCase n rows WrongCount = (n ≡ 0) ⊎ (16 < n)
+SystemCase n rows OutOfRange = FirstRow n rows OutOfRange
+SystemCase n rows NotAbove = FirstRow n rows NotAbove
+SystemCase n rows NotBelow = FirstRow n rows NotBelow
+SystemCase n rows NotLowest = FirstRow n rows NotLowest
+SystemCase n rows Uncovered = Gap n rows

@@ -1,12 +1,10 @@
 // Digit systems: document 01's section "A digit system" and its refusals 3 and 6 to 10.
 // Public: `System`, `Admission`, `admit`, and the built-in `system_r`, `system_b`, `system_d`. The rest is for the crates above, which lend a system's rows as a slice.
 ghost use mathlib.Core.Path.{_≡_};
-ghost use mathlib.Core.Option.{Option};
 ghost use Prim.Native.Nat.{_+_, _*_, _<_, _≤_};
 ghost use lib.ListN.{length};
-ghost use Rattle.whole.specs.Range.{Within};
-ghost use Rattle.digits.specs.System.{fourAt, putRow};
-ghost use Rattle.digits.specs.First.{first};
+ghost use Rattle.whole.specs.Range.{at, Within};
+ghost use Rattle.digits.specs.System.{fourAt, putRow, putRows};
 ghost use Rattle.digits.specs.Admission.{refusalNumber, within?, lowestEnds?, rowVerdict, goesOn?, goneOn?, covered?, Small, rowsVerdict, admissionOf};
 ghost use Rattle.digits.specs.BuiltIn.{systemOf, rowsR, rowsB, rowsD};
 
@@ -42,10 +40,12 @@ pub fn refusal_number(v: Admission) -> u8
     }
 }
 
-fn wide(x: i16) -> i64
-    ensures { λ r. ⌜ r ≡ x ⌝ }
+// One number of the rows.
+fn number_at(rows: &[i16], p: usize) -> i64
+    requires { ⌜ p < length (now rows) ⌝ }
+    ensures { λ r. ⌜ r ≡ at (now (rows .entry)) p ⌝ }
 {
-    x as i64
+    rows[p] as i64
 }
 
 // Four numbers of the rows, from a place on: a transformation at 8·a, an interval at 8·a + 4.
@@ -53,7 +53,12 @@ pub fn four_at(rows: &[i16], p: usize) -> [i64; 4]
     requires { ⌜ p + 4 ≤ length (now rows) ⌝ }
     ensures { λ r. ⌜ r ≡ fourAt (now (rows .entry)) p ⌝ }
 {
-    [wide(rows[p]), wide(rows[p + 1]), wide(rows[p + 2]), wide(rows[p + 3])]
+    [
+        number_at(rows, p),
+        number_at(rows, p + 1),
+        number_at(rows, p + 2),
+        number_at(rows, p + 3),
+    ]
 }
 
 // Whether four numbers lie in −b..b. Of any four numbers at all.
@@ -190,21 +195,29 @@ pub fn admit(s: System) -> Admission
     judged(s.count, &rows)
 }
 
-const R: [[i16; 8]; 4] = [
+// A row that no digit uses.
+const NO_ROW: [i16; 8] = [0, 0, 0, 0, 0, 0, 0, 0];
+
+// The built-in systems, a row of eight numbers for each digit: F as a b c d, then W as x0 x1 y0 y1.
+const R: [[i16; 8]; 16] = [
     [1, 0, 1, 1, 0, 1, 1, 1],
     [1, 1, 0, 1, 1, 1, 1, 0],
     [1, -1, 0, 1, 1, 0, 1, -1],
     [1, 0, -1, 1, -1, 1, 0, 1],
+    NO_ROW, NO_ROW, NO_ROW, NO_ROW, NO_ROW, NO_ROW,
+    NO_ROW, NO_ROW, NO_ROW, NO_ROW, NO_ROW, NO_ROW,
 ];
 
-const D: [[i16; 8]; 4] = [
+const D: [[i16; 8]; 16] = [
     [1, -1, 0, 2, -2, 1, 0, 1],
     [1, 0, 0, 2, -1, 2, 1, 2],
     [1, 1, 0, 2, 0, 1, 2, 1],
     [2, 0, 0, 1, 3, 2, 3, -2],
+    NO_ROW, NO_ROW, NO_ROW, NO_ROW, NO_ROW, NO_ROW,
+    NO_ROW, NO_ROW, NO_ROW, NO_ROW, NO_ROW, NO_ROW,
 ];
 
-const B: [[i16; 8]; 8] = [
+const B: [[i16; 8]; 16] = [
     [1, 0, 1, 2, -1, 3, 1, 1],
     [1, 1, 0, 2, 0, 1, 2, 1],
     [2, 0, 1, 1, 1, 2, 1, 0],
@@ -213,32 +226,40 @@ const B: [[i16; 8]; 8] = [
     [2, 0, -1, 1, 1, 0, 1, -2],
     [1, -1, 0, 2, -2, 1, 0, 1],
     [1, 0, -1, 2, -1, 1, 1, 3],
+    NO_ROW, NO_ROW, NO_ROW, NO_ROW, NO_ROW, NO_ROW, NO_ROW, NO_ROW,
 ];
 
 // A row written into its place.
 fn put_row(rows: &mut [i16], p: usize, row: [i16; 8])
     requires { ⌜ p + 8 ≤ length (now rows) ⌝ }
-    ensures { λ _. ⌜ now (rows .exit) ≡ putRow (now (rows .entry)) p row ⌝ }
+    ensures { λ _. ⌜ now (rows .exit) ≡ putRow (now (rows .entry)) p row 8 ⌝ }
 {
-    rows[p] = row[0];
-    rows[p + 1] = row[1];
-    rows[p + 2] = row[2];
-    rows[p + 3] = row[3];
-    rows[p + 4] = row[4];
-    rows[p + 5] = row[5];
-    rows[p + 6] = row[6];
-    rows[p + 7] = row[7];
+    let mut j = 0;
+    while j < 8 {
+        rows[p + j] = row[j];
+        j += 1;
+    }
+}
+
+// The rows of a table, one behind the other.
+fn flat(table: [[i16; 8]; 16]) -> [i16; 128]
+    ensures { λ r. ⌜ r ≡ putRows table 16 ⌝ }
+{
+    let mut rows = [0i16; 128];
+    let mut a = 0;
+    while a < 16 {
+        let row = table[a];
+        put_row(&mut rows, 8 * a, row);
+        a += 1;
+    }
+    rows
 }
 
 // The built-in system R (document 000).
 pub fn system_r() -> System
     ensures { λ r. ⌜ r ≡ systemOf rowsR ⌝ }
 {
-    let mut rows = [0i16; 128];
-    put_row(&mut rows, 0, R[0]);
-    put_row(&mut rows, 8, R[1]);
-    put_row(&mut rows, 16, R[2]);
-    put_row(&mut rows, 24, R[3]);
+    let rows = flat(R);
     System { count: 4, rows }
 }
 
@@ -246,11 +267,7 @@ pub fn system_r() -> System
 pub fn system_d() -> System
     ensures { λ r. ⌜ r ≡ systemOf rowsD ⌝ }
 {
-    let mut rows = [0i16; 128];
-    put_row(&mut rows, 0, D[0]);
-    put_row(&mut rows, 8, D[1]);
-    put_row(&mut rows, 16, D[2]);
-    put_row(&mut rows, 24, D[3]);
+    let rows = flat(D);
     System { count: 4, rows }
 }
 
@@ -258,14 +275,6 @@ pub fn system_d() -> System
 pub fn system_b() -> System
     ensures { λ r. ⌜ r ≡ systemOf rowsB ⌝ }
 {
-    let mut rows = [0i16; 128];
-    put_row(&mut rows, 0, B[0]);
-    put_row(&mut rows, 8, B[1]);
-    put_row(&mut rows, 16, B[2]);
-    put_row(&mut rows, 24, B[3]);
-    put_row(&mut rows, 32, B[4]);
-    put_row(&mut rows, 40, B[5]);
-    put_row(&mut rows, 48, B[6]);
-    put_row(&mut rows, 56, B[7]);
+    let rows = flat(B);
     System { count: 8, rows }
 }

@@ -1,175 +1,89 @@
+-- `digits::put_row` meets its contract. The invariant: the first j numbers of the row stand in their places.
 use borrow.Author.Needs.{needs}
+use mathlib.Core.Path.{_≡_, refl, ap, ap₂, _∙_}
+use mathlib.Core.List.{List}
+use Prim.Native.Nat.{ℕ, _+_, _-_, _≤_, _<_, _^_}
+use native.Mathlib.Omega.{arith}
+use native.Mathlib.Numerals.{add-one}
+use lib.IntN.{ℤ}
+use lib.Signed.{mag}
+use lib.ListN.{length, set, length-set}
+use mir.Syntax.{w16}
+use mir.Val.{SFits}
+use mir.Facts.{toZ-ofZ}
+use Rattle.whole.specs.Range.{at}
+use Rattle.digits.specs.System.{putRow}
 use Rattle.digits.proofs.put_row.Statement.{statement}
 use Rattle.digits.proofs.put_row.Tie as tie
 use Rattle.digits.proofs.put_row.Reads as reads
 use Rattle.digits.proofs.put_row.Lts as lts
 
--- src/lib.rt:223:15
-array-copy-out-rows : tie.Need-array-copy-out-rows
-array-copy-out-rows c = search needs
+abbrev Inv-loop : tie.InvT-loop
+Inv-loop rows₀ p row j₀ rows j = (j ≤ 8) × (length rows ≡ length rows₀) × (rows ≡ putRow rows₀ p row j)
 
--- src/lib.rt:223:5
-mul-rows : tie.Need-mul-rows
+abbrev μ-loop : tie.MeasureT-loop
+μ-loop rows₀ p row j₀ rows j = 8 - j
+
+-- one number more
+more : (rows : List ℤ) (p : ℕ) (row : List ℤ) (j : ℕ) → set (putRow rows p row j) (p + j) (at row j) ≡ putRow rows p row (j + 1)
+unfolding putRow
+more rows p row j = rw add-one
+
+fits : {z : ℤ} → mag z < 2 ^ 15 → SFits w16 z
+fits h = record { sfits = h }
+
+loop-holds : tie.Need-loop-holds Inv-loop μ-loop
+unfolding putRow
+loop-holds c = (search needs, refl, refl)
+
+mul-rows : tie.Need-mul-rows Inv-loop μ-loop
 mul-rows c = search needs
 
--- src/lib.rt:223:5
-slice-set-from-rows : tie.Need-slice-set-from-rows
-slice-set-from-rows c = search needs
+array-copy-out-rows : tie.Need-array-copy-out-rows Inv-loop μ-loop
+array-copy-out-rows c = search needs
 
--- src/lib.rt:224:19
-array-copy-out-rows-2 : tie.Need-array-copy-out-rows-2
-array-copy-out-rows-2 c = search needs
+add-t11 : tie.Need-add-t11 Inv-loop μ-loop
+add-t11 c = search needs
 
--- src/lib.rt:224:10
-add-rows : tie.Need-add-rows
-add-rows c = search needs
-
--- src/lib.rt:224:5
-mul-rows-2 : tie.Need-mul-rows-2
-mul-rows-2 c = search needs
-
--- src/lib.rt:224:5
-slice-set-from-rows-2 : tie.Need-slice-set-from-rows-2
-slice-set-from-rows-2 c = ?
-
--- src/lib.rt:225:19
-array-copy-out-rows-3 : tie.Need-array-copy-out-rows-3
-array-copy-out-rows-3 c = search needs
-
--- src/lib.rt:225:10
-add-rows-2 : tie.Need-add-rows-2
-add-rows-2 c = search needs
-
--- src/lib.rt:225:5
-mul-rows-3 : tie.Need-mul-rows-3
-mul-rows-3 c = search needs
-
--- src/lib.rt:225:5
-slice-set-from-rows-3 : tie.Need-slice-set-from-rows-3
-slice-set-from-rows-3 c = ?
-
--- src/lib.rt:226:19
-array-copy-out-rows-4 : tie.Need-array-copy-out-rows-4
-array-copy-out-rows-4 c = search needs
-
--- src/lib.rt:226:10
-add-rows-3 : tie.Need-add-rows-3
-add-rows-3 c = search needs
-
--- src/lib.rt:226:5
-mul-rows-4 : tie.Need-mul-rows-4
-mul-rows-4 c = search needs
-
--- src/lib.rt:226:5
-slice-set-from-rows-4 : tie.Need-slice-set-from-rows-4
-slice-set-from-rows-4 c = ?
-
--- src/lib.rt:227:19
-array-copy-out-rows-5 : tie.Need-array-copy-out-rows-5
-array-copy-out-rows-5 c = search needs
-
--- src/lib.rt:227:10
-add-rows-4 : tie.Need-add-rows-4
-add-rows-4 c = search needs
-
--- src/lib.rt:227:5
-mul-rows-5 : tie.Need-mul-rows-5
-mul-rows-5 c = search needs
-
--- src/lib.rt:227:5
-slice-set-from-rows-5 : tie.Need-slice-set-from-rows-5
-slice-set-from-rows-5 c = ?
-
--- src/lib.rt:228:19
-array-copy-out-rows-6 : tie.Need-array-copy-out-rows-6
-array-copy-out-rows-6 c = search needs
-
--- src/lib.rt:228:10
-add-rows-5 : tie.Need-add-rows-5
-add-rows-5 c = search needs
-
--- src/lib.rt:228:5
-mul-rows-6 : tie.Need-mul-rows-6
-mul-rows-6 c = search needs
-
--- src/lib.rt:228:5
-slice-set-from-rows-6 : tie.Need-slice-set-from-rows-6
-slice-set-from-rows-6 c = ?
-
--- src/lib.rt:229:19
-array-copy-out-rows-7 : tie.Need-array-copy-out-rows-7
-array-copy-out-rows-7 c = search needs
-
--- src/lib.rt:229:10
-add-rows-6 : tie.Need-add-rows-6
-add-rows-6 c = search needs
-
--- src/lib.rt:229:5
-mul-rows-7 : tie.Need-mul-rows-7
-mul-rows-7 c = search needs
-
--- src/lib.rt:229:5
-slice-set-from-rows-7 : tie.Need-slice-set-from-rows-7
-slice-set-from-rows-7 c = ?
-
--- src/lib.rt:230:19
-array-copy-out-rows-8 : tie.Need-array-copy-out-rows-8
-array-copy-out-rows-8 c = search needs
-
--- src/lib.rt:230:10
-add-t8 : tie.Need-add-t8
-add-t8 c = search needs
-
--- src/lib.rt:230:5
-mul-t12 : tie.Need-mul-t12
+mul-t12 : tie.Need-mul-t12 Inv-loop μ-loop
 mul-t12 c = search needs
 
--- src/lib.rt:230:5
-slice-set-from-rows-8 : tie.Need-slice-set-from-rows-8
-slice-set-from-rows-8 c = ?
+slice-set-from-rows : tie.Need-slice-set-from-rows Inv-loop μ-loop
+slice-set-from-rows c = search needs
 
--- src/lib.rt:219:1
-same-length : tie.Need-same-length
-same-length c = ?
+add-j : tie.Need-add-j Inv-loop μ-loop
+add-j c = search needs
 
--- src/lib.rt:219:1
-returns : tie.Need-returns
-returns c = ?
+loop-less : tie.Need-loop-less Inv-loop μ-loop
+loop-less c = search needs
+
+loop-again : tie.Need-loop-again Inv-loop μ-loop
+loop-again c =
+    let l = c .before .before .loop in
+    (search needs, simp length-set (l .inv .1), ap₂ (λ r z. set r (c .before .before .before .args .p + l .j) z) (l .inv .2) (toZ-ofZ (fits (c .rows .given))) ∙ more _ _ _ (l .j))
+
+same-length : tie.Need-same-length Inv-loop μ-loop
+same-length c = c .before .loop .inv .1
+
+returns : tie.Need-returns Inv-loop μ-loop
+returns c =
+    let e : c .before .loop .j ≡ 8 = omega arith in
+    c .before .loop .inv .2 ∙ ap (putRow _ _ _) e
 
 pub put-row-spec : {M : Type 1} → statement M
 put-row-spec =
     tie.close
     (tie.spec
-    array-copy-out-rows
+    Inv-loop
+    μ-loop
+    loop-holds
     mul-rows
-    slice-set-from-rows
-    array-copy-out-rows-2
-    add-rows
-    mul-rows-2
-    slice-set-from-rows-2
-    array-copy-out-rows-3
-    add-rows-2
-    mul-rows-3
-    slice-set-from-rows-3
-    array-copy-out-rows-4
-    add-rows-3
-    mul-rows-4
-    slice-set-from-rows-4
-    array-copy-out-rows-5
-    add-rows-4
-    mul-rows-5
-    slice-set-from-rows-5
-    array-copy-out-rows-6
-    add-rows-5
-    mul-rows-6
-    slice-set-from-rows-6
-    array-copy-out-rows-7
-    add-rows-6
-    mul-rows-7
-    slice-set-from-rows-7
-    array-copy-out-rows-8
-    add-t8
+    array-copy-out-rows
+    add-t11
     mul-t12
-    slice-set-from-rows-8
+    slice-set-from-rows
+    add-j
+    loop-less
+    loop-again
     same-length
     returns)

@@ -1,76 +1,17 @@
+-- `digits::system_d` meets its contract: the rows of the table, one behind the other, by computation.
 use borrow.Author.Needs.{needs}
+
+use Rattle.digits.specs.System.{putRow, putRows}
+use Rattle.digits.specs.BuiltIn.{systemOf}
 use Rattle.digits.proofs.system_d.Statement.{statement}
 use Rattle.digits.proofs.system_d.Tie as tie
-use Rattle.digits.proofs.system_d.Reads as reads
-use Rattle.digits.proofs.system_d.Lts as lts
-use Rattle.digits.proofs.put_row.Reads as put-row-reads
 
--- src/lib.rt:250:13
-slice-aggregate-put-row : tie.Need-slice-aggregate-put-row
-slice-aggregate-put-row c = search needs
+flat-requires : tie.Need-flat-requires
+flat-requires c κs = search needs
 
--- src/lib.rt:250:27
-array-copy-out-put-row : tie.Need-array-copy-out-put-row
-array-copy-out-put-row c = search needs
-
--- src/lib.rt:250:5
-put-row-requires : tie.Need-put-row-requires
-put-row-requires c κs = search needs
-
--- src/lib.rt:251:13
-slice-aggregate-put-row-2 : tie.Need-slice-aggregate-put-row-2
-slice-aggregate-put-row-2 c = search needs
-
--- src/lib.rt:251:27
-array-copy-out-put-row-2 : tie.Need-array-copy-out-put-row-2
-array-copy-out-put-row-2 c = search needs
-
--- src/lib.rt:251:5
-put-row-requires-2 : tie.Need-put-row-requires-2
-put-row-requires-2 c κs = search needs
-
--- src/lib.rt:252:13
-slice-aggregate-put-row-3 : tie.Need-slice-aggregate-put-row-3
-slice-aggregate-put-row-3 c = search needs
-
--- src/lib.rt:252:28
-array-copy-out-put-row-3 : tie.Need-array-copy-out-put-row-3
-array-copy-out-put-row-3 c = search needs
-
--- src/lib.rt:252:5
-put-row-requires-3 : tie.Need-put-row-requires-3
-put-row-requires-3 c κs = search needs
-
--- src/lib.rt:253:13
-slice-aggregate-put-row-4 : tie.Need-slice-aggregate-put-row-4
-slice-aggregate-put-row-4 c = search needs
-
--- src/lib.rt:253:28
-array-copy-out-put-row-4 : tie.Need-array-copy-out-put-row-4
-array-copy-out-put-row-4 c = search needs
-
--- src/lib.rt:253:5
-put-row-requires-4 : tie.Need-put-row-requires-4
-put-row-requires-4 c κs = search needs
-
--- src/lib.rt:246:1
 returns : tie.Need-returns
-returns c = ?
+unfolding systemOf putRow putRows
+returns c = λ i. record { count = 4; rows = c .flat .ensures i }
 
 pub system-d-spec : {M : Type 1} → statement M
-system-d-spec =
-    tie.close
-    (tie.spec
-    slice-aggregate-put-row
-    array-copy-out-put-row
-    put-row-requires
-    slice-aggregate-put-row-2
-    array-copy-out-put-row-2
-    put-row-requires-2
-    slice-aggregate-put-row-3
-    array-copy-out-put-row-3
-    put-row-requires-3
-    slice-aggregate-put-row-4
-    array-copy-out-put-row-4
-    put-row-requires-4
-    returns)
+system-d-spec = tie.close (tie.spec flat-requires returns)
