@@ -1,19 +1,30 @@
+-- `plane::apart` meets its contract: the sign of a product follows from the signs of its factors.
+use mathlib.Core.Path.{_∙_, ap}
+use lib.IntN.{ℤ, pos}
+use lib.Signed.{leZ}
+use mir.Facts.{toZ-ofZ}
+use Rattle.whole.proofs.Test.{lt-true, lt-false}
+use Rattle.plane.proofs.Signs.{below-times, above-times, nought-times}
 use Rattle.plane.proofs.apart.Statement.{statement}
 use Rattle.plane.proofs.apart.Tie as tie
-use Rattle.plane.proofs.apart.Reads as reads
-use Rattle.plane.proofs.apart.Lts as lts
 
--- src/lib.rt:109:9
 returns : tie.Need-returns
-returns c = ?
+returns c =
+    let s = c .before in
+    let p = toZ-ofZ (s .fits .p) in
+    ap (leZ (pos 0)) (toZ-ofZ (s .fits .q)) ∙ below-times (s .args .p) (s .args .q) (lt-true _ _ (simp p at (c .if1 .taken)))
 
--- src/lib.rt:112:9
 returns-2 : tie.Need-returns-2
-returns-2 c = ?
+returns-2 c =
+    let s = c .before .before in
+    let p = toZ-ofZ (s .fits .p) in
+    ap (λ (z : ℤ). leZ z (pos 0)) (toZ-ofZ (s .fits .q)) ∙ above-times (s .args .p) (s .args .q) (lt-true _ _ (simp p at (c .if2 .taken)))
 
--- src/lib.rt:105:1
 returns-3 : tie.Need-returns-3
-returns-3 c = ?
+returns-3 c =
+    let s = c .before .before in
+    let p = toZ-ofZ (s .fits .p) in
+    nought-times (s .args .p) (s .args .q) (lt-false _ _ (simp p at (c .before .if1 .left))) (lt-false _ _ (simp p at (c .if2 .left)))
 
 pub apart-spec : {M : Type 1} → statement M
 apart-spec = tie.close (tie.spec returns returns-2 returns-3)

@@ -1,50 +1,44 @@
+-- `plane::determinant` meets its contract: each product lies within a·b, and their difference within 2·a·b, which fits.
 use borrow.Author.Needs.{needs}
+use mathlib.Core.List.{List}
+use Prim.Native.Nat.{_+_, _*_, _^_}
+use native.Mathlib.Omega.{arith}
+use lib.Dec.{T, ltb, ltb→lt, lt→ltb}
+use lib.IntN.{ℤ}
+use Rattle.whole.proofs.Machine.{mul-ok, mul-stands, sub-ok, sub-stands}
+use Rattle.plane.specs.Fits.{Products}
+use Rattle.plane.specs.Plane.{determinantOf}
+use Rattle.plane.proofs.Words.{read}
 use Rattle.plane.proofs.determinant.Statement.{statement}
 use Rattle.plane.proofs.determinant.Tie as tie
-use Rattle.plane.proofs.determinant.Reads as reads
-use Rattle.plane.proofs.determinant.Lts as lts
 
--- src/lib.rt:19:5
-array-copy-out-result : tie.Need-array-copy-out-result
-array-copy-out-result c = search needs
+half : {m : List ℤ} (p : Products m) → T (ltb (p .a * p .b) (2 ^ 63))
+half p = lt→ltb (p .a * p .b) (2 ^ 63) (omega (arith, ltb→lt (p .a * p .b + p .a * p .b) (2 ^ 63) (p .small)))
 
--- src/lib.rt:19:12
-array-copy-out-result-2 : tie.Need-array-copy-out-result-2
-array-copy-out-result-2 c = search needs
-
--- src/lib.rt:19:5
 mul-result : tie.Need-mul-result
-mul-result c = ?
+mul-result c = let p = c .before .before .pre in mul-ok (read (c .before .result .given) (p .n0)) (read (c .result2 .given) (p .n3)) (half p)
 
--- src/lib.rt:19:19
-array-copy-out-result-3 : tie.Need-array-copy-out-result-3
-array-copy-out-result-3 c = search needs
-
--- src/lib.rt:19:26
-array-copy-out-result-4 : tie.Need-array-copy-out-result-4
-array-copy-out-result-4 c = search needs
-
--- src/lib.rt:19:19
 mul-result-2 : tie.Need-mul-result-2
-mul-result-2 c = ?
+mul-result-2 c = let p = c .before .before .before .before .pre in mul-ok (read (c .before .result3 .given) (p .n1)) (read (c .result4 .given) (p .n2)) (half p)
 
--- src/lib.rt:19:5
 sub-result : tie.Need-sub-result
-sub-result c = ?
+sub-result c =
+    let s = c .before .before in
+    let p = s .before .before .pre in
+    sub-ok
+    (mul-stands (read (s .before .result .given) (p .n0)) (read (s .result2 .given) (p .n3)) (half p))
+    (mul-stands (read (c .before .result3 .given) (p .n1)) (read (c .result4 .given) (p .n2)) (half p))
+    (p .small)
 
--- src/lib.rt:15:1
 returns : tie.Need-returns
-returns c = ?
+unfolding determinantOf
+returns c =
+    let s = c .before .before in
+    let p = s .before .before .pre in
+    sub-stands
+    (mul-stands (read (s .before .result .given) (p .n0)) (read (s .result2 .given) (p .n3)) (half p))
+    (mul-stands (read (c .before .result3 .given) (p .n1)) (read (c .result4 .given) (p .n2)) (half p))
+    (p .small) .is
 
 pub determinant-spec : {M : Type 1} → statement M
-determinant-spec =
-    tie.close
-    (tie.spec
-    array-copy-out-result
-    array-copy-out-result-2
-    mul-result
-    array-copy-out-result-3
-    array-copy-out-result-4
-    mul-result-2
-    sub-result
-    returns)
+determinant-spec = tie.close (tie.spec (λ c. search needs) (λ c. search needs) mul-result (λ c. search needs) (λ c. search needs) mul-result-2 sub-result returns)

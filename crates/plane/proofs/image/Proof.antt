@@ -1,61 +1,37 @@
+-- `plane::image` meets its contract: the product's columns are the images of the ends, and written as rows they are X·W.
 use borrow.Author.Needs.{needs}
+use mathlib.Core.Path.{_≡_, _∙_, ap}
+use mathlib.Core.List.{List, [], _∷_}
+use lib.IntN.{ℤ}
+use Rattle.whole.specs.Range.{at}
+use Rattle.whole.proofs.Range.{within-le}
+use Rattle.whole.proofs.Machine.{back, near-back, ok-back}
+use Rattle.plane.specs.Plane.{multiplyOf, apply, imageOf}
+use Rattle.plane.proofs.Words.{entries}
 use Rattle.plane.proofs.image.Statement.{statement}
 use Rattle.plane.proofs.image.Tie as tie
-use Rattle.plane.proofs.image.Reads as reads
-use Rattle.plane.proofs.image.Lts as lts
-use Rattle.plane.proofs.multiply.Reads as multiply-reads
 
--- src/lib.rt:59:26
-array-copy-out-t8 : tie.Need-array-copy-out-t8
-array-copy-out-t8 c = search needs
-
--- src/lib.rt:59:32
-array-copy-out-t11 : tie.Need-array-copy-out-t11
-array-copy-out-t11 c = search needs
-
--- src/lib.rt:59:38
-array-copy-out-t14 : tie.Need-array-copy-out-t14
-array-copy-out-t14 c = search needs
-
--- src/lib.rt:59:44
-array-copy-out-t17 : tie.Need-array-copy-out-t17
-array-copy-out-t17 c = search needs
-
--- src/lib.rt:59:13
 multiply-requires : tie.Need-multiply-requires
-multiply-requires c κs = ?
+multiply-requires c κs =
+    let p = c .before .before .before .before .pre in
+    let w = within-le {b = 1000000000} (p .1) tt in
+    (p .0, record { n0 = near-back (w .n0) tt; n1 = near-back (w .n2) tt; n2 = near-back (w .n1) tt; n3 = near-back (w .n3) tt })
 
--- src/lib.rt:60:6
-array-copy-out-t8-2 : tie.Need-array-copy-out-t8-2
-array-copy-out-t8-2 c = search needs
-
--- src/lib.rt:60:12
-array-copy-out-t11-2 : tie.Need-array-copy-out-t11-2
-array-copy-out-t11-2 c = search needs
-
--- src/lib.rt:60:18
-array-copy-out-t17-2 : tie.Need-array-copy-out-t17-2
-array-copy-out-t17-2 c = search needs
-
--- src/lib.rt:60:24
-array-copy-out-t14-2 : tie.Need-array-copy-out-t14-2
-array-copy-out-t14-2 c = search needs
-
--- src/lib.rt:55:1
 returns : tie.Need-returns
-returns c = ?
+unfolding multiplyOf imageOf apply
+returns c =
+    let k = c .before .before .before .before in
+    let s = k .before .before .before .before .before in
+    let w = s .pre .1 in
+    let e : k .multiply .result ≡ multiplyOf (s .args .m) (at (s .args .t2) 0 ∷ at (s .args .t2) 2 ∷ at (s .args .t2) 1 ∷ at (s .args .t2) 3 ∷ []) =
+    k .multiply .ensures ∙ ap (multiplyOf (s .args .m)) (entries (back (w .n0) tt) (back (w .n2) tt) (back (w .n1) tt) (back (w .n3) tt)) in
+    entries
+    (ok-back (c .before .before .before .t82 .given) ∙ ap (λ (l : List ℤ). at l 0) e)
+    (ok-back (c .before .before .t112 .given) ∙ ap (λ (l : List ℤ). at l 2) e)
+    (ok-back (c .before .t172 .given) ∙ ap (λ (l : List ℤ). at l 1) e)
+    (ok-back (c .t142 .given) ∙ ap (λ (l : List ℤ). at l 3) e)
 
 pub image-spec : {M : Type 1} → statement M
-image-spec =
-    tie.close
-    (tie.spec
-    array-copy-out-t8
-    array-copy-out-t11
-    array-copy-out-t14
-    array-copy-out-t17
-    multiply-requires
-    array-copy-out-t8-2
-    array-copy-out-t11-2
-    array-copy-out-t17-2
-    array-copy-out-t14-2
-    returns)
+image-spec = tie.close (tie.spec
+    (λ c. search needs) (λ c. search needs) (λ c. search needs) (λ c. search needs) multiply-requires
+    (λ c. search needs) (λ c. search needs) (λ c. search needs) (λ c. search needs) returns)

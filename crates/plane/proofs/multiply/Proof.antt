@@ -1,76 +1,41 @@
+-- `plane::multiply` meets its contract: each entry is what `dot` ensures of four entries, which are read back as they are.
 use borrow.Author.Needs.{needs}
+use mathlib.Core.Path.{_≡_, _∙_}
+use lib.IntN.{ℤ, _+ℤ_, _*ℤ_}
+use Rattle.whole.specs.Range.{Near}
+use Rattle.whole.proofs.Machine.{back, near-back, ok-back}
+use Rattle.plane.specs.Plane.{multiplyOf}
+use Rattle.plane.proofs.Words.{held, Fits, entries}
 use Rattle.plane.proofs.multiply.Statement.{statement}
 use Rattle.plane.proofs.multiply.Tie as tie
-use Rattle.plane.proofs.multiply.Reads as reads
-use Rattle.plane.proofs.multiply.Lts as lts
-use Rattle.plane.proofs.dot.Reads as dot-reads
 
--- src/lib.rt:43:13
-array-copy-out-a : tie.Need-array-copy-out-a
-array-copy-out-a c = search needs
+module _ {a b x y : ℤ} (ha : Near 1000000000 a) (hb : Near 1000000000 b) (hx : Near 1000000000 x) (hy : Near 1000000000 y) where
+  asked : (Near 1000000000 (held a)) × (Near 1000000000 (held b)) × (Near 1000000000 (held x)) × (Near 1000000000 (held y))
+  asked = (near-back ha tt, near-back hb tt, near-back hx tt, near-back hy tt)
 
--- src/lib.rt:44:13
-array-copy-out-b : tie.Need-array-copy-out-b
-array-copy-out-b c = search needs
+  entry : {r : ℤ} → Fits r → r ≡ held a *ℤ held x +ℤ held b *ℤ held y → held r ≡ a *ℤ x +ℤ b *ℤ y
+  entry fits e = ok-back fits ∙ e ∙ (λ i. back ha tt i *ℤ back hx tt i +ℤ back hb tt i *ℤ back hy tt i)
 
--- src/lib.rt:45:13
-array-copy-out-c : tie.Need-array-copy-out-c
-array-copy-out-c c = search needs
+abbrev start : tie.After-w → tie.Start
+start c = c .before .before .before .before .before .before .before .before
 
--- src/lib.rt:46:13
-array-copy-out-d : tie.Need-array-copy-out-d
-array-copy-out-d c = search needs
-
--- src/lib.rt:47:13
-array-copy-out-x : tie.Need-array-copy-out-x
-array-copy-out-x c = search needs
-
--- src/lib.rt:48:13
-array-copy-out-y : tie.Need-array-copy-out-y
-array-copy-out-y c = search needs
-
--- src/lib.rt:49:13
-array-copy-out-z : tie.Need-array-copy-out-z
-array-copy-out-z c = search needs
-
--- src/lib.rt:50:13
-array-copy-out-w : tie.Need-array-copy-out-w
-array-copy-out-w c = search needs
-
--- src/lib.rt:51:6
-dot-requires : tie.Need-dot-requires
-dot-requires c κs = ?
-
--- src/lib.rt:51:23
-dot-requires-2 : tie.Need-dot-requires-2
-dot-requires-2 c κs = ?
-
--- src/lib.rt:51:40
-dot-requires-3 : tie.Need-dot-requires-3
-dot-requires-3 c κs = ?
-
--- src/lib.rt:51:57
-dot-requires-4 : tie.Need-dot-requires-4
-dot-requires-4 c κs = ?
-
--- src/lib.rt:39:1
 returns : tie.Need-returns
-returns c = ?
+unfolding multiplyOf
+returns c =
+    let s = c .before .before .before in
+    let p = start (s .before) .pre in
+    entries
+    (entry (p .0 .n0) (p .0 .n1) (p .1 .n0) (p .1 .n2) (s .dot .ok) (s .dot .ensures))
+    (entry (p .0 .n0) (p .0 .n1) (p .1 .n1) (p .1 .n3) (c .before .before .dot2 .ok) (c .before .before .dot2 .ensures))
+    (entry (p .0 .n2) (p .0 .n3) (p .1 .n0) (p .1 .n2) (c .before .dot3 .ok) (c .before .dot3 .ensures))
+    (entry (p .0 .n2) (p .0 .n3) (p .1 .n1) (p .1 .n3) (c .dot4 .ok) (c .dot4 .ensures))
 
 pub multiply-spec : {M : Type 1} → statement M
-multiply-spec =
-    tie.close
-    (tie.spec
-    array-copy-out-a
-    array-copy-out-b
-    array-copy-out-c
-    array-copy-out-d
-    array-copy-out-x
-    array-copy-out-y
-    array-copy-out-z
-    array-copy-out-w
-    dot-requires
-    dot-requires-2
-    dot-requires-3
-    dot-requires-4
+multiply-spec = tie.close (tie.spec
+    (λ c. search needs) (λ c. search needs) (λ c. search needs) (λ c. search needs)
+    (λ c. search needs) (λ c. search needs) (λ c. search needs) (λ c. search needs)
+    (λ c κs. let p = start c .pre in asked (p .0 .n0) (p .0 .n1) (p .1 .n0) (p .1 .n2))
+    (λ c κs. let p = start (c .before) .pre in asked (p .0 .n0) (p .0 .n1) (p .1 .n1) (p .1 .n3))
+    (λ c κs. let p = start (c .before .before) .pre in asked (p .0 .n2) (p .0 .n3) (p .1 .n0) (p .1 .n2))
+    (λ c κs. let p = start (c .before .before .before) .pre in asked (p .0 .n2) (p .0 .n3) (p .1 .n1) (p .1 .n3))
     returns)

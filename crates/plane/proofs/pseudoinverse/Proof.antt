@@ -1,45 +1,23 @@
+-- `plane::pseudoinverse` meets its contract: a negation is worked out as 0 less the number, and fits.
 use borrow.Author.Needs.{needs}
+use mathlib.Core.Path.{_≡_, _∙_}
+use lib.IntN.{ℤ, pos, negℤ, _-ℤ_, +ℤ-idl}
+use Rattle.whole.specs.Range.{Near}
+use Rattle.whole.proofs.Machine.{literal, stored, back, sub-ok, sub-stands}
+use Rattle.plane.specs.Plane.{pseudoinverseOf}
+use Rattle.plane.proofs.Words.{held, entries}
 use Rattle.plane.proofs.pseudoinverse.Statement.{statement}
 use Rattle.plane.proofs.pseudoinverse.Tie as tie
-use Rattle.plane.proofs.pseudoinverse.Reads as reads
-use Rattle.plane.proofs.pseudoinverse.Lts as lts
 
--- src/lib.rt:27:6
-array-copy-out-t5 : tie.Need-array-copy-out-t5
-array-copy-out-t5 c = search needs
+negated : {z : ℤ} → Near 1000000000 z → held (pos 0 -ℤ held z) ≡ negℤ z
+negated {z} h = sub-stands (literal (pos 0)) (stored h tt) tt .is ∙ +ℤ-idl (negℤ z)
 
--- src/lib.rt:27:13
-array-copy-out-t8 : tie.Need-array-copy-out-t8
-array-copy-out-t8 c = search needs
-
--- src/lib.rt:27:12
-sub-t9 : tie.Need-sub-t9
-sub-t9 c = ?
-
--- src/lib.rt:27:20
-array-copy-out-t12 : tie.Need-array-copy-out-t12
-array-copy-out-t12 c = search needs
-
--- src/lib.rt:27:19
-sub-t13 : tie.Need-sub-t13
-sub-t13 c = ?
-
--- src/lib.rt:27:26
-array-copy-out-t16 : tie.Need-array-copy-out-t16
-array-copy-out-t16 c = search needs
-
--- src/lib.rt:23:1
 returns : tie.Need-returns
-returns c = ?
+unfolding pseudoinverseOf
+returns c = let p = c .before .before .before .before .pre in entries (back (p .n3) tt) (negated (p .n1)) (negated (p .n2)) (back (p .n0) tt)
 
 pub pseudoinverse-spec : {M : Type 1} → statement M
-pseudoinverse-spec =
-    tie.close
-    (tie.spec
-    array-copy-out-t5
-    array-copy-out-t8
-    sub-t9
-    array-copy-out-t12
-    sub-t13
-    array-copy-out-t16
-    returns)
+pseudoinverse-spec = tie.close (tie.spec
+    (λ c. search needs) (λ c. search needs) (λ c. sub-ok (literal (pos 0)) (stored (c .before .before .pre .n1) tt) tt)
+    (λ c. search needs) (λ c. sub-ok (literal (pos 0)) (stored (c .before .before .before .pre .n2) tt) tt)
+    (λ c. search needs) returns)

@@ -1,116 +1,61 @@
+-- `plane::sides` meets its contract: each of the four is what `determinant` ensures of an end of I and an end of J, which are read back as they are.
 use borrow.Author.Needs.{needs}
+use mathlib.Core.Path.{_≡_, _∙_, ap}
+use mathlib.Core.List.{[], _∷_}
+use lib.IntN.{ℤ, _-ℤ_, _*ℤ_}
+use Rattle.whole.specs.Range.{Near}
+use Rattle.whole.proofs.Machine.{back, near-back, ok-back}
+use Rattle.plane.specs.Fits.{Products}
+use Rattle.plane.specs.Plane.{determinantOf}
+use Rattle.plane.specs.Inclusion.{sidesOf}
+use Rattle.plane.proofs.Words.{held, Fits, entries}
 use Rattle.plane.proofs.sides.Statement.{statement}
 use Rattle.plane.proofs.sides.Tie as tie
-use Rattle.plane.proofs.sides.Reads as reads
-use Rattle.plane.proofs.sides.Lts as lts
-use Rattle.plane.proofs.determinant.Reads as determinant-reads
 
--- src/lib.rt:97:22
-array-copy-out-t8 : tie.Need-array-copy-out-t8
-array-copy-out-t8 c = search needs
+-- an end x of I and an end y of J
+module _ {x0 x1 y0 y1 : ℤ} (h0 : Near 200000000000 x0) (h1 : Near 200000000000 x1) (k0 : Near 100 y0) (k1 : Near 100 y1) where
+  asked : Products (held x0 ∷ held x1 ∷ held y0 ∷ held y1 ∷ [])
+  asked = record { a = 200000000000; b = 100; n0 = near-back h0 tt; n1 = near-back h1 tt; n2 = near-back k0 tt; n3 = near-back k1 tt; small = tt }
 
--- src/lib.rt:97:28
-array-copy-out-t11 : tie.Need-array-copy-out-t11
-array-copy-out-t11 c = search needs
+  side : {r : ℤ} → Fits r → r ≡ determinantOf (held x0 ∷ held x1 ∷ held y0 ∷ held y1 ∷ []) → held r ≡ x0 *ℤ y1 -ℤ x1 *ℤ y0
+  unfolding determinantOf
+  side fits e = ok-back fits ∙ e ∙ ap determinantOf (entries (back h0 tt) (back h1 tt) (back k0 tt) (back k1 tt))
 
--- src/lib.rt:97:34
-array-copy-out-t14 : tie.Need-array-copy-out-t14
-array-copy-out-t14 c = search needs
+-- where each call stands: the entry, and the places after the determinants before it
+abbrev start : tie.After-t17 → tie.Start
+start c = c .before .before .before .before
 
--- src/lib.rt:97:40
-array-copy-out-t17 : tie.Need-array-copy-out-t17
-array-copy-out-t17 c = search needs
+abbrev first : tie.After-t31 → tie.After-determinant
+first c = c .before .before .before .before
 
--- src/lib.rt:97:9
-determinant-requires : tie.Need-determinant-requires
-determinant-requires c κs = ?
+abbrev second : tie.After-t45 → tie.After-determinant2
+second c = c .before .before .before .before
 
--- src/lib.rt:98:22
-array-copy-out-t22 : tie.Need-array-copy-out-t22
-array-copy-out-t22 c = search needs
+abbrev third : tie.After-t59 → tie.After-determinant3
+third c = c .before .before .before .before
 
--- src/lib.rt:98:28
-array-copy-out-t25 : tie.Need-array-copy-out-t25
-array-copy-out-t25 c = search needs
-
--- src/lib.rt:98:34
-array-copy-out-t28 : tie.Need-array-copy-out-t28
-array-copy-out-t28 c = search needs
-
--- src/lib.rt:98:40
-array-copy-out-t31 : tie.Need-array-copy-out-t31
-array-copy-out-t31 c = search needs
-
--- src/lib.rt:98:9
-determinant-requires-2 : tie.Need-determinant-requires-2
-determinant-requires-2 c κs = ?
-
--- src/lib.rt:99:22
-array-copy-out-t36 : tie.Need-array-copy-out-t36
-array-copy-out-t36 c = search needs
-
--- src/lib.rt:99:28
-array-copy-out-t39 : tie.Need-array-copy-out-t39
-array-copy-out-t39 c = search needs
-
--- src/lib.rt:99:34
-array-copy-out-t42 : tie.Need-array-copy-out-t42
-array-copy-out-t42 c = search needs
-
--- src/lib.rt:99:40
-array-copy-out-t45 : tie.Need-array-copy-out-t45
-array-copy-out-t45 c = search needs
-
--- src/lib.rt:99:9
-determinant-requires-3 : tie.Need-determinant-requires-3
-determinant-requires-3 c κs = ?
-
--- src/lib.rt:100:22
-array-copy-out-t50 : tie.Need-array-copy-out-t50
-array-copy-out-t50 c = search needs
-
--- src/lib.rt:100:28
-array-copy-out-t53 : tie.Need-array-copy-out-t53
-array-copy-out-t53 c = search needs
-
--- src/lib.rt:100:34
-array-copy-out-t56 : tie.Need-array-copy-out-t56
-array-copy-out-t56 c = search needs
-
--- src/lib.rt:100:40
-array-copy-out-t59 : tie.Need-array-copy-out-t59
-array-copy-out-t59 c = search needs
-
--- src/lib.rt:100:9
-determinant-requires-4 : tie.Need-determinant-requires-4
-determinant-requires-4 c κs = ?
-
--- src/lib.rt:92:1
 returns : tie.Need-returns
-returns c = ?
+unfolding sidesOf
+returns c =
+    let r = third (c .before) in
+    let q = second (r .before) in
+    let p = first (q .before) in
+    let i = start (p .before) .pre .0 in
+    let j = start (p .before) .pre .1 in
+    entries
+    (side (i .n0) (i .n1) (j .n0) (j .n1) (p .determinant .ok) (p .determinant .ensures))
+    (side (i .n0) (i .n1) (j .n2) (j .n3) (q .determinant2 .ok) (q .determinant2 .ensures))
+    (side (i .n2) (i .n3) (j .n0) (j .n1) (r .determinant3 .ok) (r .determinant3 .ensures))
+    (side (i .n2) (i .n3) (j .n2) (j .n3) (c .determinant4 .ok) (c .determinant4 .ensures))
 
 pub sides-spec : {M : Type 1} → statement M
-sides-spec =
-    tie.close
-    (tie.spec
-    array-copy-out-t8
-    array-copy-out-t11
-    array-copy-out-t14
-    array-copy-out-t17
-    determinant-requires
-    array-copy-out-t22
-    array-copy-out-t25
-    array-copy-out-t28
-    array-copy-out-t31
-    determinant-requires-2
-    array-copy-out-t36
-    array-copy-out-t39
-    array-copy-out-t42
-    array-copy-out-t45
-    determinant-requires-3
-    array-copy-out-t50
-    array-copy-out-t53
-    array-copy-out-t56
-    array-copy-out-t59
-    determinant-requires-4
+sides-spec = tie.close (tie.spec
+    (λ c. search needs) (λ c. search needs) (λ c. search needs) (λ c. search needs)
+    (λ c κs. let p = start c .pre in asked (p .0 .n0) (p .0 .n1) (p .1 .n0) (p .1 .n1))
+    (λ c. search needs) (λ c. search needs) (λ c. search needs) (λ c. search needs)
+    (λ c κs. let p = start (first c .before) .pre in asked (p .0 .n0) (p .0 .n1) (p .1 .n2) (p .1 .n3))
+    (λ c. search needs) (λ c. search needs) (λ c. search needs) (λ c. search needs)
+    (λ c κs. let p = start (first (second c .before) .before) .pre in asked (p .0 .n2) (p .0 .n3) (p .1 .n0) (p .1 .n1))
+    (λ c. search needs) (λ c. search needs) (λ c. search needs) (λ c. search needs)
+    (λ c κs. let p = start (first (second (third c .before) .before) .before) .pre in asked (p .0 .n2) (p .0 .n3) (p .1 .n2) (p .1 .n3))
     returns)
