@@ -5,6 +5,7 @@
 --   UnusedRows                rows of digits that a system hasn't got change no answer
 --   BuiltIn                   R, D and B are admitted
 --   OneDigit, OneAnswer       a system with one digit is never admitted; no second answer fits
+pub mod Words
 pub mod First
 pub mod RowSays
 pub mod AdmittedSays

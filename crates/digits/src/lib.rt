@@ -65,16 +65,20 @@ pub fn four_at(rows: &[i16], p: usize) -> [i64; 4]
 pub fn within(m: [i64; 4], b: u64) -> bool
     ensures { λ r. ⌜ r ≡ within? b m ⌝ }
 {
-    if b < whole::magnitude(m[0]) {
+    let p = whole::magnitude(m[0]);
+    let q = whole::magnitude(m[1]);
+    let r = whole::magnitude(m[2]);
+    let s = whole::magnitude(m[3]);
+    if b < p {
         return false;
     }
-    if b < whole::magnitude(m[1]) {
+    if b < q {
         return false;
     }
-    if b < whole::magnitude(m[2]) {
+    if b < r {
         return false;
     }
-    whole::magnitude(m[3]) <= b
+    s <= b
 }
 
 // Whether both ends of an interval are in lowest terms.
@@ -204,8 +208,18 @@ const R: [[i16; 8]; 16] = [
     [1, 1, 0, 1, 1, 1, 1, 0],
     [1, -1, 0, 1, 1, 0, 1, -1],
     [1, 0, -1, 1, -1, 1, 0, 1],
-    NO_ROW, NO_ROW, NO_ROW, NO_ROW, NO_ROW, NO_ROW,
-    NO_ROW, NO_ROW, NO_ROW, NO_ROW, NO_ROW, NO_ROW,
+    NO_ROW,
+    NO_ROW,
+    NO_ROW,
+    NO_ROW,
+    NO_ROW,
+    NO_ROW,
+    NO_ROW,
+    NO_ROW,
+    NO_ROW,
+    NO_ROW,
+    NO_ROW,
+    NO_ROW,
 ];
 
 const D: [[i16; 8]; 16] = [
@@ -213,8 +227,18 @@ const D: [[i16; 8]; 16] = [
     [1, 0, 0, 2, -1, 2, 1, 2],
     [1, 1, 0, 2, 0, 1, 2, 1],
     [2, 0, 0, 1, 3, 2, 3, -2],
-    NO_ROW, NO_ROW, NO_ROW, NO_ROW, NO_ROW, NO_ROW,
-    NO_ROW, NO_ROW, NO_ROW, NO_ROW, NO_ROW, NO_ROW,
+    NO_ROW,
+    NO_ROW,
+    NO_ROW,
+    NO_ROW,
+    NO_ROW,
+    NO_ROW,
+    NO_ROW,
+    NO_ROW,
+    NO_ROW,
+    NO_ROW,
+    NO_ROW,
+    NO_ROW,
 ];
 
 const B: [[i16; 8]; 16] = [
@@ -226,7 +250,14 @@ const B: [[i16; 8]; 16] = [
     [2, 0, -1, 1, 1, 0, 1, -2],
     [1, -1, 0, 2, -2, 1, 0, 1],
     [1, 0, -1, 2, -1, 1, 1, 3],
-    NO_ROW, NO_ROW, NO_ROW, NO_ROW, NO_ROW, NO_ROW, NO_ROW, NO_ROW,
+    NO_ROW,
+    NO_ROW,
+    NO_ROW,
+    NO_ROW,
+    NO_ROW,
+    NO_ROW,
+    NO_ROW,
+    NO_ROW,
 ];
 
 // A row written into its place.

@@ -22,10 +22,10 @@ use Rattle.unary.specs.Run.{runOf}
 pub data Session (a b : System) (m : List ℤ) : List ℕ → List ℕ → State → Type 0 where
   opened : Admissible (a .count) (a .rows) → Admissible (b .count) (b .rows) → openOf m .opening ≡ Opens → Session a b m [] [] (openOf m .state)
   called : {taken given : List ℕ} {s : State} → Session a b m taken given s → (input output : List ℕ) →
-    Session a b m
-    (taken ++ take (runOf a b s input output .answer .taken .0) input)
-    (given ++ take (runOf a b s input output .answer .written .0) (runOf a b s input output .output))
-    (runOf a b s input output .answer .state)
+      Session a b m
+      (taken ++ take (runOf a b s input output .answer .taken .0) input)
+      (given ++ take (runOf a b s input output .answer .written .0) (runOf a b s input output .output))
+      (runOf a b s input output .answer .state)
 
 -- "Absorbed, not taken: the held digit is not yet absorbed."
 abbrev pub held : Held → List ℕ
@@ -36,8 +36,8 @@ held (Digit a) = a ∷ []
 pub data Moment (y : Systems) (m : List ℤ) : List ℕ → List ℕ → State → Type 0 where
   opened : openOf m .opening ≡ Opens → Moment y m [] [] (openOf m .state)
   loaded : {absorbed given : List ℕ} {s : State} → Moment y m absorbed given s → (next : Next) (room : Bool) →
-    stepOf y s next room .kind ≡ Load → Moment y m absorbed given (stepOf y s next room .state)
+      stepOf y s next room .kind ≡ Load → Moment y m absorbed given (stepOf y s next room .state)
   gave : {absorbed given : List ℕ} {s : State} → Moment y m absorbed given s → (next : Next) (room : Bool) (b : ℕ) →
-    stepOf y s next room .kind ≡ Give b → Moment y m absorbed (given ++ b ∷ []) (stepOf y s next room .state)
+      stepOf y s next room .kind ≡ Give b → Moment y m absorbed (given ++ b ∷ []) (stepOf y s next room .state)
   took-in : {absorbed given : List ℕ} {s : State} → Moment y m absorbed given s → (next : Next) (room : Bool) (a : ℕ) →
-    s .held ≡ Digit a → stepOf y s next room .kind ≡ Absorb → Moment y m (absorbed ++ a ∷ []) given (stepOf y s next room .state)
+      s .held ≡ Digit a → stepOf y s next room .kind ≡ Absorb → Moment y m (absorbed ++ a ∷ []) given (stepOf y s next room .state)

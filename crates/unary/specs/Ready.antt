@@ -3,8 +3,11 @@ use mathlib.Core.List.{List}
 use mathlib.Core.Option.{Option, none, some}
 use Prim.Native.Nat.{ℕ, _+_, _*_, _<_, _≤_}
 use lib.ListN.{length}
-use lib.IntN.{ℤ, pos}
-use Rattle.digits.specs.Admitted.{DigitAt, DigitsBelow, Admissible}
+use lib.IntN.{ℤ}
+use Rattle.whole.specs.Range.{Within}
+use Rattle.whole.specs.Divisor.{gcd4}
+use Rattle.plane.specs.Plane.{multiplyOf}
+use Rattle.digits.specs.Admitted.{DigitAt, DigitsBelow}
 use Rattle.unary.specs.declared.State.{State}
 use Rattle.unary.specs.declared.Fitting.{Fitting}
 use Rattle.unary.specs.declared.Fitting.the-variants.{At, Missing}
@@ -19,6 +22,13 @@ lent ins in-rows outs out-rows = record { ins = ins; in-rows = in-rows; outs = o
 abbrev pub fitting : Option ℕ → Fitting
 fitting none = Missing
 fitting (some b) = At b
+
+-- two matrices whose product can be formed and cancelled
+pub record Factors (m n : List ℤ) : Type 0 where
+  pub first : Within 1000000000 m
+  pub second : Within 1000000000 n
+  pub range : Within 200000000000 (multiplyOf m n)
+  pub divisor : 0 < gcd4 (multiplyOf m n)
 
 -- a digit whose row is there, and a state whose matrix it can be multiplied with
 pub record Turn (rows : List ℤ) (s : State) (a : ℕ) : Type 0 where

@@ -4,11 +4,12 @@ ghost use mathlib.Core.Path.{_≡_};
 ghost use Prim.Native.Nat.{_≤_};
 ghost use lib.ListN.{length};
 ghost use Rattle.whole.specs.Range.{Within};
+ghost use Rattle.plane.specs.Plane.{multiplyOf, cancelOf};
 ghost use Rattle.digits.specs.Admission.{Small};
 ghost use Rattle.unary.specs.State.{heldDigit?, state?, openOf};
 ghost use Rattle.unary.specs.Step.{loadOf, ranged, fittingOf, giveOf, absorbOf, emitOf, stepOf};
 ghost use Rattle.unary.specs.Run.{nextAt, stepsOf, refusalOf, runOf, systems};
-ghost use Rattle.unary.specs.Ready.{lent, fitting, Turn, Lent, Ready};
+ghost use Rattle.unary.specs.Ready.{lent, fitting, Factors, Turn, Lent, Ready};
 use digits::System;
 
 // A digit that was taken and is not yet absorbed, or none.
@@ -210,6 +211,14 @@ fn fitting_digit(m: usize, rows: &[i16], image: [i64; 4]) -> Fitting
     Fitting::Missing
 }
 
+// A product, cancelled.
+fn product(m: [i64; 4], n: [i64; 4]) -> [i64; 4]
+    requires { ⌜ Factors m n ⌝ }
+    ensures { λ r. ⌜ r ≡ cancelOf (multiplyOf m n) ⌝ }
+{
+    plane::cancel(plane::multiply(m, n))
+}
+
 // Line 4, its second half: the digit b is given out.
 fn give(rows: &[i16], s: State, b: u8, room: bool) -> Move
     requires { ⌜ Turn (now rows) s b ⌝ }
@@ -224,7 +233,7 @@ fn give(rows: &[i16], s: State, b: u8, room: bool) -> Move
     let x = s.matrix;
     let held = s.held;
     let g = digits::four_at(rows, 8 * (b as usize));
-    let matrix = plane::cancel(plane::multiply(plane::pseudoinverse(g), x));
+    let matrix = product(plane::pseudoinverse(g), x);
     let t = State { matrix, held };
     in_range(s, Kind::Give(b), t)
 }
@@ -236,7 +245,7 @@ fn absorb(rows: &[i16], s: State, h: u8) -> Move
 {
     let x = s.matrix;
     let f = digits::four_at(rows, 8 * (h as usize));
-    let matrix = plane::cancel(plane::multiply(x, f));
+    let matrix = product(x, f);
     let t = State {
         matrix,
         held: Held::Nothing,
@@ -245,35 +254,43 @@ fn absorb(rows: &[i16], s: State, h: u8) -> Move
 }
 
 // Lines 4 and 5: the digit h is held.
-fn emit(in_rows: &[i16], outs: usize, out_rows: &[i16], s: State, h: u8, room: bool) -> Move
-    requires { ⌜ (Turn (now in_rows) s h) × (Lent outs (now out_rows)) ⌝ }
-    ensures { λ r. ⌜ r ≡ emitOf (now (in_rows .entry)) outs (now (out_rows .entry)) s h room ⌝ }
+fn emit(fw: &[i16], outs: usize, gu: &[i16], s: State, h: u8, room: bool) -> Move
+    requires { ⌜ (Turn (now fw) s h) × (Lent outs (now gu)) ⌝ }
+    ensures { λ r. ⌜ r ≡ emitOf (now (fw .entry)) outs (now (gu .entry)) s h room ⌝ }
 {
-    let w = digits::four_at(in_rows, 8 * (h as usize) + 4);
+    let w = digits::four_at(fw, 8 * (h as usize) + 4);
     let x = s.matrix;
     let image = plane::image(x, w);
-    match fitting_digit(outs, out_rows, image) {
-        Fitting::At(b) => give(out_rows, s, b, room),
-        Fitting::Missing => absorb(in_rows, s, h),
+    match fitting_digit(outs, gu, image) {
+        Fitting::At(b) => give(gu, s, b, room),
+        Fitting::Missing => absorb(fw, s, h),
     }
 }
 
 // One step, first line that applies.
-fn step(ins: usize, in_rows: &[i16], outs: usize, out_rows: &[i16], s: State, next: Next, room: bool) -> Move
-    requires { ⌜ Ready (lent ins (now in_rows) outs (now out_rows)) s ⌝ }
-    ensures { λ r. ⌜ r ≡ stepOf (lent ins (now (in_rows .entry)) outs (now (out_rows .entry))) s next room ⌝ }
+fn step(ins: usize, fw: &[i16], outs: usize, gu: &[i16], s: State, next: Next, room: bool) -> Move
+    requires { ⌜ Ready (lent ins (now fw) outs (now gu)) s ⌝ }
+    ensures { λ r. ⌜ r ≡ stepOf (lent ins (now (fw .entry)) outs (now (gu .entry))) s next room ⌝ }
 {
     let held = s.held;
     match held {
         Held::Nothing => load(ins, s, next),
-        Held::Digit(h) => emit(in_rows, outs, out_rows, s, h, room),
+        Held::Digit(h) => emit(fw, outs, gu, s, h, room),
     }
 }
 
 // The steps of a run whose systems and state are judged. A digit is written only after its state is known to fit.
-fn steps(ins: usize, in_rows: &[i16], outs: usize, out_rows: &[i16], s: State, input: &[u8], output: &mut [u8]) -> Answer
-    requires { ⌜ Ready (lent ins (now in_rows) outs (now out_rows)) s ⌝ }
-    ensures { λ r. ⌜ (r ≡ stepsOf (lent ins (now (in_rows .entry)) outs (now (out_rows .entry))) s (now (input .entry)) (now (output .entry)) .answer) × (now (output .exit) ≡ stepsOf (lent ins (now (in_rows .entry)) outs (now (out_rows .entry))) s (now (input .entry)) (now (output .entry)) .output) ⌝ }
+fn steps(
+    ins: usize,
+    fw: &[i16],
+    outs: usize,
+    gu: &[i16],
+    s: State,
+    input: &[u8],
+    output: &mut [u8],
+) -> Answer
+    requires { ⌜ Ready (lent ins (now fw) outs (now gu)) s ⌝ }
+    ensures { λ r. ⌜ (r ≡ stepsOf (lent ins (now (fw .entry)) outs (now (gu .entry))) s (now (input .entry)) (now (output .entry)) .answer) × (now (output .exit) ≡ stepsOf (lent ins (now (fw .entry)) outs (now (gu .entry))) s (now (input .entry)) (now (output .entry)) .output) ⌝ }
 {
     let mut st = s;
     let mut i: usize = 0;
@@ -281,7 +298,7 @@ fn steps(ins: usize, in_rows: &[i16], outs: usize, out_rows: &[i16], s: State, i
     loop {
         let next = next_at(input, i);
         let room = o < output.len();
-        let m = step(ins, in_rows, outs, out_rows, st, next, room);
+        let m = step(ins, fw, outs, gu, st, next, room);
         let kind = m.kind;
         let t = m.state;
         st = t;
@@ -307,15 +324,15 @@ fn steps(ins: usize, in_rows: &[i16], outs: usize, out_rows: &[i16], s: State, i
 }
 
 // "A run judges its input system (3, 6 to 10), its output system, then the state (12), before any step": the number of the refusal, or 0.
-fn refusal(ins: usize, in_rows: &[i16], outs: usize, out_rows: &[i16], s: State) -> u8
-    requires { ⌜ (128 ≤ length (now in_rows)) × (128 ≤ length (now out_rows)) ⌝ }
-    ensures { λ r. ⌜ r ≡ refusalOf (lent ins (now (in_rows .entry)) outs (now (out_rows .entry))) s ⌝ }
+fn refusal(ins: usize, fw: &[i16], outs: usize, gu: &[i16], s: State) -> u8
+    requires { ⌜ (128 ≤ length (now fw)) × (128 ≤ length (now gu)) ⌝ }
+    ensures { λ r. ⌜ r ≡ refusalOf (lent ins (now (fw .entry)) outs (now (gu .entry))) s ⌝ }
 {
-    let a = digits::refusal_number(digits::judged(ins, in_rows));
+    let a = digits::refusal_number(digits::judged(ins, fw));
     if a != 0 {
         return a;
     }
-    let b = digits::refusal_number(digits::judged(outs, out_rows));
+    let b = digits::refusal_number(digits::judged(outs, gu));
     if b != 0 {
         return b;
     }
@@ -323,14 +340,20 @@ fn refusal(ins: usize, in_rows: &[i16], outs: usize, out_rows: &[i16], s: State)
 }
 
 // A run: bytes of the input are taken and digits are written to the output until a step stops. Of any two systems, any state, any input and any output at all.
-pub fn run(input_system: System, output_system: System, state: State, input: &[u8], output: &mut [u8]) -> Answer
+pub fn run(
+    input_system: System,
+    output_system: System,
+    state: State,
+    input: &[u8],
+    output: &mut [u8],
+) -> Answer
     ensures { λ r. ⌜ (r ≡ runOf input_system output_system state (now (input .entry)) (now (output .entry)) .answer) × (now (output .exit) ≡ runOf input_system output_system state (now (input .entry)) (now (output .entry)) .output) ⌝ }
 {
     let ins = input_system.count;
-    let in_rows = input_system.rows;
+    let fw = input_system.rows;
     let outs = output_system.count;
-    let out_rows = output_system.rows;
-    let number = refusal(ins, &in_rows, outs, &out_rows, state);
+    let gu = output_system.rows;
+    let number = refusal(ins, &fw, outs, &gu, state);
     if number != 0 {
         return Answer {
             stop: Stop::Refused(number),
@@ -339,5 +362,5 @@ pub fn run(input_system: System, output_system: System, state: State, input: &[u
             state,
         };
     }
-    steps(ins, &in_rows, outs, &out_rows, state, input, output)
+    steps(ins, &fw, outs, &gu, state, input, output)
 }

@@ -2,21 +2,21 @@
 -- det(x, z)·d is 0 or below, for the left end x of w. The code forms both determinants and compares their signs.
 use borrow.Author.Needs.{needs}
 use borrow.Author.Tests.{ne-eqb}
-use mathlib.Core.Path.{_≡_, refl, sym, _∙_, ap, ap₂}
-use mathlib.Core.Bool.{Bool, false, not, _&&_, and-true, and-false}
+use mathlib.Core.Path.{_≡_, refl, sym, _∙_, ap}
+use mathlib.Core.Bool.{false, not, _&&_, and-true, and-false}
 use mathlib.Core.List.{List, [], _∷_}
 use Prim.Native.Nat.{ℕ, _+_}
 use lib.Dec.{eqb}
 use lib.IntN.{ℤ, pos, natAbs, _-ℤ_, _*ℤ_}
 use lib.Signed.{leZ}
 use mir.Syntax.{w64}
-use mir.Val.{ofZ, toZ}
+use mir.Val.{ofZ}
 use Rattle.whole.specs.Range.{at, Near, Within}
 use Rattle.whole.proofs.Range.{natAbs-neg, natAbs-zero}
 use Rattle.whole.proofs.Machine.{back, near-back, ok-back, back-of}
 use Rattle.plane.specs.Fits.{Products}
-use Rattle.plane.specs.Plane.{Pair, det, left, right, determinantOf}
-use Rattle.plane.specs.Inclusion.{closed?, same?}
+use Rattle.plane.specs.Plane.{det, left, right, determinantOf}
+use Rattle.plane.specs.Inclusion.{same?}
 use Rattle.plane.proofs.Words.{held, Fits, entries}
 use Rattle.plane.proofs.Identities.{det-turned}
 use Rattle.plane.proofs.Signs.{closed-to}

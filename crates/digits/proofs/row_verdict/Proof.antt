@@ -1,79 +1,72 @@
+-- `digits::row_verdict` meets its contract: the code asks the tests of `rowVerdict` in their order, and what it hands on has passed those before.
 use borrow.Author.Needs.{needs}
+use borrow.Author.Tests.{not-true, not-false, eq-eqb, ne-eqb}
+use mathlib.Core.Path.{_≡_, sym, _∙_}
+use mathlib.Core.Bool.{true, not, cond, _&&_}
+use lib.IntN.{pos}
+use lib.Signed.{leZ}
+use Rattle.plane.proofs.Words.{held, above, below}
+use Rattle.plane.proofs.Ranges.{within-products}
+use Rattle.digits.specs.Admission.{within?, lowest?, lowestEnds?, rowVerdict}
+use Rattle.digits.specs.declared.Admission.the-variants.{Admitted, NotBelow, NotLowest}
+use Rattle.digits.proofs.RowSays.{true-both, within-says}
 use Rattle.digits.proofs.row_verdict.Statement.{statement}
 use Rattle.digits.proofs.row_verdict.Tie as tie
-use Rattle.digits.proofs.row_verdict.Reads as reads
-use Rattle.digits.proofs.row_verdict.Lts as lts
-use Rattle.digits.proofs.lowest_ends.Reads as lowest-ends-reads
-use Rattle.digits.proofs.within.Reads as within-reads
-use Rattle.plane.proofs.determinant.Reads as determinant-reads
-use Rattle.plane.proofs.divisor.Reads as divisor-reads
 
--- src/lib.rt:94:9
-within-requires : tie.Need-within-requires
-within-requires c κs = search needs
+-- the numbers of F and of W that were found in range
+range-f : (c : tie.Else1) → within? 100 (c .before .before .args .f) ≡ true
+range-f c = let t = c .before .within in sym (t .ensures) ∙ not-false (t .result) (c .if1 .left)
 
--- src/lib.rt:95:9
+range-w : (c : tie.Else2) → within? 100 (c .before .before .before .before .args .w) ≡ true
+range-w c = let t = c .before .within2 in sym (t .ensures) ∙ not-false (t .result) (c .if2 .left)
+
+range : (c : tie.Else2) → let a = c .before .before .before .before .args in (within? 100 (a .f) && within? 100 (a .w)) ≡ true
+range c = true-both (range-f (c .before .before)) (range-w c)
+
+-- the verdict where 6 and 7 do not apply, where 8 does not either, and where F is in lowest terms
+from-8 : (c : tie.After-determinant2) → let a = c .before .before .before .before .before .before .before .args in
+    rowVerdict (a .f) (a .w) ≡ cond (not (leZ (pos 0) (held (c .determinant2 .result)))) (cond (lowest? (a .f) && lowestEnds? (a .w)) Admitted NotLowest) NotBelow
+unfolding rowVerdict
+from-8 c =
+    let p = c .before in
+    let f = p .before in
+    rw (range (f .before), above (f .determinant .ok) (f .determinant .ensures), p .if3 .left, below (c .determinant2 .ok) (c .determinant2 .ensures))
+
+from-9 : (c : tie.Else4) → let a = c .before .before .before .before .before .before .before .before .args in
+    rowVerdict (a .f) (a .w) ≡ cond (lowest? (a .f) && lowestEnds? (a .w)) Admitted NotLowest
+from-9 c = rw (from-8 (c .before), c .if4 .left)
+
+ends : (c : tie.After-lowest-ends) → let a = c .before .before .before .before .before .before .before .before .before .before .before .args in
+    rowVerdict (a .f) (a .w) ≡ cond (c .lowest-ends .result) Admitted NotLowest
+ends c = let g = c .before .before in rw (from-9 (g .before), sym (g .divisor .ensures), eq-eqb _ _ (c .before .if5 .left), sym (c .lowest-ends .ensures))
+
 returns : tie.Need-returns
-returns c = ?
+unfolding rowVerdict
+returns c = let t = c .before .within in rw (sym (t .ensures) ∙ not-true (t .result) (c .if1 .taken))
 
--- src/lib.rt:97:9
-within-requires-2 : tie.Need-within-requires-2
-within-requires-2 c κs = search needs
-
--- src/lib.rt:98:9
 returns-2 : tie.Need-returns-2
-returns-2 c = ?
+unfolding rowVerdict
+returns-2 c = let t = c .before .within2 in rw (range-f (c .before .before), sym (t .ensures) ∙ not-true (t .result) (c .if2 .taken))
 
--- src/lib.rt:100:8
-determinant-requires : tie.Need-determinant-requires
-determinant-requires c κs = ?
-
--- src/lib.rt:101:9
 returns-3 : tie.Need-returns-3
-returns-3 c = ?
+unfolding rowVerdict
+returns-3 c = let f = c .before in rw (range (f .before), above (f .determinant .ok) (f .determinant .ensures), c .if3 .taken)
 
--- src/lib.rt:103:13
-determinant-requires-2 : tie.Need-determinant-requires-2
-determinant-requires-2 c κs = ?
-
--- src/lib.rt:104:9
 returns-4 : tie.Need-returns-4
-returns-4 c = ?
+returns-4 c = rw (from-8 (c .before), c .if4 .taken)
 
--- src/lib.rt:106:8
-divisor-requires : tie.Need-divisor-requires
-divisor-requires c κs = search needs
-
--- src/lib.rt:107:9
 returns-5 : tie.Need-returns-5
-returns-5 c = ?
+returns-5 c = let g = c .before in rw (from-9 (g .before), sym (g .divisor .ensures), ne-eqb _ _ (c .if5 .taken))
 
--- src/lib.rt:109:8
-lowest-ends-requires : tie.Need-lowest-ends-requires
-lowest-ends-requires c κs = search needs
-
--- src/lib.rt:110:9
 returns-6 : tie.Need-returns-6
-returns-6 c = ?
+returns-6 c = rw (ends (c .before), c .if6 .taken)
 
--- src/lib.rt:91:1
 returns-7 : tie.Need-returns-7
-returns-7 c = ?
+returns-7 c = rw (ends (c .before), c .if6 .left)
 
 pub row-verdict-spec : {M : Type 1} → statement M
-row-verdict-spec =
-    tie.close
-    (tie.spec
-    within-requires
-    returns
-    within-requires-2
-    returns-2
-    determinant-requires
-    returns-3
-    determinant-requires-2
-    returns-4
-    divisor-requires
-    returns-5
-    lowest-ends-requires
-    returns-6
-    returns-7)
+row-verdict-spec = tie.close (tie.spec
+    (λ c κs. search needs) returns (λ c κs. search needs) returns-2
+    (λ c κs. within-products (within-says 100 _ (range-f (c .before .before))) tt) returns-3
+    (λ c κs. within-products (within-says 100 _ (range-w (c .before .before))) tt) returns-4
+    (λ c κs. search needs) returns-5 (λ c κs. search needs) returns-6 returns-7)

@@ -1,6 +1,5 @@
 -- `digits::system_r` meets its contract: the rows of the table, one behind the other, by computation.
 use borrow.Author.Needs.{needs}
-
 use Rattle.digits.specs.System.{putRow, putRows}
 use Rattle.digits.specs.BuiltIn.{systemOf}
 use Rattle.digits.proofs.system_r.Statement.{statement}
