@@ -2,7 +2,7 @@
 
 use crate::chance::Chance;
 use crate::draw_systems::{any_row, positive_matrix};
-use crate::plane::det;
+use crate::plane::gcd;
 use crate::reading::Job;
 use crate::systems::{w, Row};
 
@@ -129,15 +129,16 @@ pub fn break_cover(chance: &mut Chance, job: &mut Job) {
     }
 }
 
-/// The right end moves, by as little as it can or by some, towards the left one.
+/// An end moves towards the other one: the more steps, the less.
 fn shorten(chance: &mut Chance, row: &mut Row) {
-    let w = w(row);
+    let ends = [w(row).left, w(row).right];
+    let which = chance.below(2);
     let steps = chance.pick(&[1, 1, 2, 5, 20, 60]);
-    let end = [w.left[0] + steps * w.right[0], w.left[1] + steps * w.right[1]];
-    let lowest = crate::plane::gcd(&end).max(1);
-    let end = end.map(|n| n / lowest);
-    if end.iter().all(|n| n.abs() <= 100) && det(w.left, end) < 0 {
-        row[6..].copy_from_slice(&end);
+    let [moved, other] = [ends[which], ends[1 - which]];
+    let end = [steps * moved[0] + other[0], steps * moved[1] + other[1]];
+    let end = end.map(|n| n / gcd(&end).max(1));
+    if end.iter().all(|n| n.abs() <= 100) {
+        row[4 + 2 * which..][..2].copy_from_slice(&end);
     }
 }
 

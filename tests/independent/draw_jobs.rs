@@ -3,9 +3,9 @@
 use crate::chance::Chance;
 use crate::damage;
 use crate::draw_systems::*;
-use crate::plane::{product, Matrix};
+use crate::plane::{determinant, product, Matrix};
 use crate::reading::Job;
-use crate::systems::{Row, R};
+use crate::systems::{Row, B, D, R};
 
 /// A kind of case: its share of SLOTS, its name, and how a file is drawn. The number handed over counts the times that this kind came up; a kind that
 /// goes through places one after another goes by it.
@@ -23,7 +23,7 @@ pub const KINDS: [Kind; 20] = [
     (2, "digits that stretch, entries near the range's ends", |c, _| with_systems(c, stretching, stretching_or_other, digits_by_chance)),
     (1, "powers of ten, entries at the range's ends", |c, _| powers_of_ten(c)),
     (1, "long words", |c, _| long_word(c)),
-    (1, "outputs that just fit, or do not", |c, _| full_output(c)),
+    (1, "outputs that just fit, or do not", full_output),
     (1, "damaged: the document's job, cut at every length", |_, turn| layout(&documents_job())[..turn % 148].to_vec()),
     (1, "damaged: a job cut somewhere", |c, _| damaged_file(c, damage::cut)),
     (1, "damaged: bytes follow", |c, _| damaged_file(c, damage::append)),
@@ -132,20 +132,43 @@ fn powers_of_ten(chance: &mut Chance) -> Vec<u8> {
     layout(&Job { input, output, matrix: [a, 0, 0, d], word })
 }
 
-/// Two or three digits of R for one; or two digits that change nothing, of which one fits for ever.
-fn full_output(chance: &mut Chance) -> Vec<u8> {
-    if chance.once_in(4) {
-        let rows = vec![[1, 0, 0, 1, 0, 1, 1, 0], [1, 0, 0, 1, 1, 0, 0, -1]];
-        let word = digits_by_chance(chance, &rows, 3);
-        return layout(&Job { input: rows.clone(), output: rows, matrix: matrix(chance), word });
-    }
+fn full_output(chance: &mut Chance, turn: usize) -> Vec<u8> {
+    let job = match turn % 6 {
+        0 => one_digit_for_ever(chance),
+        1 => room_and_range(chance),
+        _ => more_digits_out(chance),
+    };
+    layout(&job)
+}
+
+/// Two digits that change nothing, of which one fits for ever.
+fn one_digit_for_ever(chance: &mut Chance) -> Job {
+    let rows = vec![[1, 0, 0, 1, 0, 1, 1, 0], [1, 0, 0, 1, 1, 0, 0, -1]];
+    let word = digits_by_chance(chance, &rows, 3);
+    Job { input: rows.clone(), output: rows, matrix: matrix(chance), word }
+}
+
+/// The first two digits of the word bring X to 1 0 0 d. The third is held for ever, and each digit that is given out takes d from the second entry:
+/// after n digits it is −nd. With d = 122070 the room (8192) and the range end at the same step, with the others one of them ends first.
+fn room_and_range(chance: &mut Chance) -> Job {
+    let (m, k, l) = chance.pick(&[(939, 65, 2), (939, 65, 2), (763, 80, 2), (904, 45, 3)]);
+    let input = vec![[1, 0, 0, k, -1, 1, 2, -1], [1, 0, 0, l, -1, 1, 2, -1], [1, 0, 0, 1, 0, 1, 1, 1], [1, 0, 0, 1, -3, 1, 0, 1]];
+    let output = vec![[1, 1, 0, 1, 1, 0, -1, -1], [1, 0, 0, 1, 0, 1, 1, 0]];
+    Job { input, output, matrix: [1, 0, 0, m], word: vec![0, 1, 2] }
+}
+
+/// Two or three digits of R for one, and now and then a byte that is no digit behind them.
+fn more_digits_out(chance: &mut Chance) -> Job {
     let input = power_of_r(chance);
     // 2 · 4096 = 8192, and 3 · 2731 = 8193.
     let length = if input.len() == 8 { 4097 - chance.below(4).max(1) } else { 2733 - chance.below(5) };
     // The first half of the digits is for the numbers above 0.
-    let word = digits_by_chance(chance, &input[..input.len() / 2], length);
+    let mut word = digits_by_chance(chance, &input[..input.len() / 2], length);
+    if word.len() < 4096 && chance.once_in(4) {
+        word.push(16);
+    }
     let matrix = chance.pick(&[[1, 0, 0, 1], [1, 0, 0, 1], [1, 1, 0, 1], [2, 0, 0, 1]]);
-    layout(&Job { input, output: R.to_vec(), matrix, word })
+    Job { input, output: R.to_vec(), matrix, word }
 }
 
 /// Matrices with determinant above 0 and entries in −1000..1000: tiny and huge ones, with determinant 1 or a large one, cancelled or not.
@@ -178,7 +201,7 @@ fn huge_unimodular(chance: &mut Chance) -> Matrix {
 fn limit_matrix(chance: &mut Chance) -> Matrix {
     loop {
         let m: Matrix = [0; 4].map(|_| chance.pick(&[-1000, -999, -500, -1, 0, 0, 1, 500, 999, 1000]));
-        if crate::plane::determinant(m) > 0 {
+        if determinant(m) > 0 {
             return m;
         }
     }
@@ -207,7 +230,7 @@ fn damaged_file(chance: &mut Chance, damage: fn(&mut Chance, &Job, &mut Vec<u8>)
 
 /// Each number of a job from B to D in turn, set to a value at a limit.
 fn number_in_turn(chance: &mut Chance, turn: usize) -> Vec<u8> {
-    let mut job = Job { input: crate::systems::B.to_vec(), output: crate::systems::D.to_vec(), ..documents_job() };
+    let mut job = Job { input: B.to_vec(), output: D.to_vec(), ..documents_job() };
     damage::set_to_limit(chance, &mut job, turn);
     layout(&job)
 }

@@ -6,9 +6,11 @@ use std::sync::atomic::{AtomicUsize, Ordering};
 pub enum Fault {
     BothEnds,
     EqualShutOut,
+    ProductIn64Bits,
     PositiveSign,
     CoverOfEnds,
     CoverByOpen,
+    LowByteOfCount,
     LengthBeforeCount,
     SeventeenDigits,
     RangesFirst,
@@ -17,6 +19,7 @@ pub enum Fault {
     MatrixLast,
     ShortWords,
     RoomFirst,
+    RangeBeforeRoom,
     AbsorbsEarly,
     NoDigitTaken,
     LastDigit,
@@ -28,12 +31,14 @@ pub enum Fault {
 }
 
 /// Each fault with its name on the command line and what goes wrong.
-pub const FAULTS: [(Fault, &str, &str); 21] = [
+pub const FAULTS: [(Fault, &str, &str); 24] = [
     (Fault::BothEnds, "both-ends", "inclusion is judged by both ends alone"),
     (Fault::EqualShutOut, "equal-shut-out", "an interval is not included in itself"),
+    (Fault::ProductIn64Bits, "product-in-64-bits", "two determinants are multiplied in 64 bits to get a sign"),
     (Fault::PositiveSign, "positive-sign", "cancelling makes the first entry's sign positive"),
     (Fault::CoverOfEnds, "cover-of-ends", "a system is admitted if the intervals' ends are covered"),
     (Fault::CoverByOpen, "cover-by-open", "a point has to be inside an interval to be covered"),
+    (Fault::LowByteOfCount, "low-byte-of-count", "the high byte of a count is passed over"),
     (Fault::LengthBeforeCount, "length-before-count", "a system's length is tested before its count"),
     (Fault::SeventeenDigits, "seventeen-digits", "a system may have 17 digits"),
     (Fault::RangesFirst, "ranges-first", "the ranges of all rows are tested before any determinant"),
@@ -42,6 +47,7 @@ pub const FAULTS: [(Fault, &str, &str); 21] = [
     (Fault::MatrixLast, "matrix-last", "the word and what follows it are judged before the matrix"),
     (Fault::ShortWords, "short-words", "a word has at most 4095 digits"),
     (Fault::RoomFirst, "room-first", "a full output stops a run even where no digit fits"),
+    (Fault::RangeBeforeRoom, "range-before-room", "22 is given where there is no room either"),
     (Fault::AbsorbsEarly, "absorbs-early", "while input is left, a digit is absorbed though one can be given out"),
     (Fault::NoDigitTaken, "no-digit-taken", "a byte that is no digit is taken"),
     (Fault::LastDigit, "last-digit", "the last digit that fits is given out"),

@@ -77,6 +77,9 @@ pub fn cancel(m: Matrix) -> Matrix {
 
 /// The sign of det(x, z)·det(z, y): "A point z is inside exactly if det(x, z)·det(z, y) > 0, and in the closed interval exactly if that product is ≥ 0."
 fn side(i: Interval, z: Point) -> i128 {
+    if planted(Fault::ProductIn64Bits) {
+        return (det(i.left, z) as i64).wrapping_mul(det(z, i.right) as i64).signum() as i128;
+    }
     det(i.left, z).signum() * det(z, i.right).signum()
 }
 

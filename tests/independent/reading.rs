@@ -56,7 +56,8 @@ fn take<'a>(rest: &mut &'a [u8], length: usize) -> Result<&'a [u8], u8> {
 /// "Its count (2 bytes, low byte first)."
 fn take_count(rest: &mut &[u8]) -> Result<usize, u8> {
     let bytes = take(rest, 2)?;
-    Ok(bytes[0] as usize + 256 * bytes[1] as usize)
+    let high = if planted(Fault::LowByteOfCount) { 0 } else { bytes[1] };
+    Ok(bytes[0] as usize + 256 * high as usize)
 }
 
 /// "Signed 16-bit numbers, low byte first, two's complement."

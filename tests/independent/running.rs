@@ -69,18 +69,17 @@ fn digit_that_fits(job: &Job, named: Interval) -> Option<u8> {
 
 /// Line 4, with b found.
 fn give_digit(job: &Job, room: usize, run: &mut Run, b: u8) -> Result<(), u8> {
+    let next = within_range(product(pseudoinverse(f(&job.output[b as usize])), run.x));
     // "No room in the output: stop, end 20."
-    if run.written.len() >= room {
+    if run.written.len() >= room && !(planted(Fault::RangeBeforeRoom) && next.is_err()) {
         return Err(20);
     }
-    if planted(Fault::WritesFirst) {
+    if planted(Fault::WritesFirst) && next.is_err() {
         run.written.push(b);
     }
     // "Else X becomes pseudoinverse(G_b)·X, cancelled; if an entry leaves the range: stop, end 22; else write b."
-    run.x = within_range(product(pseudoinverse(f(&job.output[b as usize])), run.x))?;
-    if !planted(Fault::WritesFirst) {
-        run.written.push(b);
-    }
+    run.x = next?;
+    run.written.push(b);
     Ok(())
 }
 
