@@ -66,7 +66,11 @@ fn input() -> Vec<u8> {
 }
 
 fn print(bytes: &[u8]) {
-    stdout().write_all(bytes).unwrap_or_else(|_| give_up("standard output cannot be written"));
+    write(&mut stdout(), bytes);
+}
+
+fn write(out: &mut impl Write, bytes: &[u8]) {
+    out.write_all(bytes).unwrap_or_else(|_| give_up("standard output cannot be written"));
 }
 
 fn answer_many(mut jobs: &[u8]) {
@@ -74,18 +78,18 @@ fn answer_many(mut jobs: &[u8]) {
     while !jobs.is_empty() {
         let length = jobs.get(..4).map_or(usize::MAX, |bytes| u32::from_le_bytes(bytes.try_into().unwrap()) as usize);
         let Some(job) = jobs[4.min(jobs.len())..].get(..length) else { give_up("the input ends within a job") };
-        out.write_all(running::printed(job).as_bytes()).unwrap();
+        write(&mut out, running::printed(job).as_bytes());
         jobs = &jobs[4 + length..];
     }
-    out.flush().unwrap();
+    out.flush().unwrap_or_else(|_| give_up("standard output cannot be written"));
 }
 
 fn draw(seed: u64, count: u64) {
     let mut out = BufWriter::new(stdout());
     for n in 1..=count {
         let job = draw_jobs::case(seed, n);
-        out.write_all(&(job.len() as u32).to_le_bytes()).unwrap();
-        out.write_all(&job).unwrap();
+        write(&mut out, &(job.len() as u32).to_le_bytes());
+        write(&mut out, &job);
     }
-    out.flush().unwrap();
+    out.flush().unwrap_or_else(|_| give_up("standard output cannot be written"));
 }
