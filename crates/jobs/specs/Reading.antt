@@ -98,42 +98,33 @@ wordNumber bytes =
     5)
     1
 
--- ---- the file
-
--- the bytes from the second, the third and the fourth section's count on
-abbrev pub systemSize : List ℕ → ℕ
-systemSize bytes = 2 + 16 * countOf bytes
-
-abbrev pub afterInput : List ℕ → List ℕ
-afterInput file = drop (systemSize file) file
-
-abbrev pub afterOutput : List ℕ → List ℕ
-afterOutput file = drop (systemSize (afterInput file)) (afterInput file)
-
-abbrev pub afterMatrix : List ℕ → List ℕ
-afterMatrix file = drop 10 (afterOutput file)
+-- ---- the file: section after section, with where the section starts and what was read before it
 
 -- "The answer is the number and the section"; "no job"
 abbrev pub refused : ℕ → ℕ → Reading
 refused number section = record { verdict = Refused number section; job = noJob }
 
--- the first section that is refused decides
+-- a section that is refused decides; else the next one does
 abbrev pub judged : ℕ → ℕ → Reading → Reading
 judged section zero next = next
 judged section (suc number) next = refused (suc number) section
 
--- the word stays where it is: behind two systems, ten bytes of a matrix and its own count
-unfoldable pub jobOf : List ℕ → Job
-jobOf file = record {
-  input = systemSection file .system;
-  output = systemSection (afterInput file) .system;
-  matrix = matrixSection (afterOutput file) .matrix;
-  word = record { start = systemSize file + systemSize (afterInput file) + 12; length = countOf (afterMatrix file) };
-}
+-- the word stays where it is, behind its count
+unfoldable pub wordRead : List ℕ → ℕ → System → System → List ℤ → Reading
+wordRead bytes start input output matrix = judged 3 (wordNumber bytes) (record {
+  verdict = Reads;
+  job = record { input = input; output = output; matrix = matrix; word = record { start = start + 2; length = countOf bytes } };
+})
+
+unfoldable pub matrixRead : List ℕ → ℕ → System → System → Reading
+matrixRead bytes start input output = judged 2 (matrixSection bytes .number) (wordRead (drop 10 bytes) (start + 10) input output (matrixSection bytes .matrix))
+
+abbrev pub systemSize : List ℕ → ℕ
+systemSize bytes = 2 + 16 * countOf bytes
+
+unfoldable pub outputRead : List ℕ → ℕ → System → Reading
+outputRead bytes start input =
+    judged 1 (systemSection bytes .number) (matrixRead (drop (systemSize bytes) bytes) (start + systemSize bytes) input (systemSection bytes .system))
 
 unfoldable pub readOf : List ℕ → Reading
-readOf file =
-    judged 0 (systemSection file .number)
-    (judged 1 (systemSection (afterInput file) .number)
-    (judged 2 (matrixSection (afterOutput file) .number)
-    (judged 3 (wordNumber (afterMatrix file)) (record { verdict = Reads; job = jobOf file }))))
+readOf file = judged 0 (systemSection file .number) (outputRead (drop (systemSize file) file) (systemSize file) (systemSection file .system))

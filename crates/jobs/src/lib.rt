@@ -3,7 +3,7 @@ ghost use mathlib.Core.Path.{_≡_};
 ghost use Prim.Native.Nat.{_+_, _*_, _<_, _≤_};
 ghost use lib.ListN.{length};
 ghost use Rattle.digits.specs.BuiltIn.{filled};
-ghost use Rattle.jobs.specs.Reading.{pairAt, numberAt, numbersAt, systemRefused, systemSection, matrixRefused, matrixSection, wordNumber, refused as refusedOf, readOf};
+ghost use Rattle.jobs.specs.Reading.{pairAt, numberAt, numbersAt, systemRefused, systemSection, matrixRefused, matrixSection, wordNumber, refused as refusedOf, wordRead, matrixRead, outputRead, readOf};
 use digits::System;
 
 // Where the word stands in the file: its bytes stay there, and are not tested here.
@@ -206,38 +206,19 @@ fn refused(number: u8, section: u8) -> Reading
     }
 }
 
-// Reads a job file: one pass, section by section. Of any bytes at all.
-pub fn read(file: &[u8]) -> Reading
-    ensures { λ r. ⌜ r ≡ readOf (now (file .entry)) ⌝ }
+// The last section, the word, which starts at a place of the file; and the job, if it reads.
+fn word_read(bytes: &[u8], start: usize, input: System, output: System, matrix: [i64; 4]) -> Reading
+    requires { ⌜ start ≤ 526 ⌝ }
+    ensures { λ r. ⌜ r ≡ wordRead (now (bytes .entry)) start input output matrix ⌝ }
 {
-    let first = system_section(file);
-    if first.number != 0 {
-        return refused(first.number, 0);
-    }
-    let input = first.system;
-    let a = 2 + 16 * input.count;
-    let after_input = &file[a..];
-    let second = system_section(after_input);
-    if second.number != 0 {
-        return refused(second.number, 1);
-    }
-    let output = second.system;
-    let b = 2 + 16 * output.count;
-    let after_output = &after_input[b..];
-    let third = matrix_section(after_output);
-    if third.number != 0 {
-        return refused(third.number, 2);
-    }
-    let after_matrix = &after_output[10..];
-    let number = word_number(after_matrix);
+    let number = word_number(bytes);
     if number != 0 {
         return refused(number, 3);
     }
     let word = Word {
-        start: a + b + 12,
-        length: pair_at(after_matrix, 0),
+        start: start + 2,
+        length: pair_at(bytes, 0),
     };
-    let matrix = third.matrix;
     let job = Job {
         input,
         output,
@@ -248,4 +229,47 @@ pub fn read(file: &[u8]) -> Reading
         verdict: Verdict::Reads,
         job,
     }
+}
+
+// The third section, the matrix, and what follows it.
+fn matrix_read(bytes: &[u8], start: usize, input: System, output: System) -> Reading
+    requires { ⌜ start ≤ 516 ⌝ }
+    ensures { λ r. ⌜ r ≡ matrixRead (now (bytes .entry)) start input output ⌝ }
+{
+    let section = matrix_section(bytes);
+    let number = section.number;
+    if number != 0 {
+        return refused(number, 2);
+    }
+    let matrix = section.matrix;
+    word_read(&bytes[10..], start + 10, input, output, matrix)
+}
+
+// The second section, the output system, and what follows it.
+fn output_read(bytes: &[u8], start: usize, input: System) -> Reading
+    requires { ⌜ start ≤ 258 ⌝ }
+    ensures { λ r. ⌜ r ≡ outputRead (now (bytes .entry)) start input ⌝ }
+{
+    let section = system_section(bytes);
+    let number = section.number;
+    if number != 0 {
+        return refused(number, 1);
+    }
+    let output = section.system;
+    let size = 2 + 16 * output.count;
+    matrix_read(&bytes[size..], start + size, input, output)
+}
+
+// Reads a job file, section by section, in one pass. Of any bytes at all.
+pub fn read(file: &[u8]) -> Reading
+    ensures { λ r. ⌜ r ≡ readOf (now (file .entry)) ⌝ }
+{
+    let section = system_section(file);
+    let number = section.number;
+    if number != 0 {
+        return refused(number, 0);
+    }
+    let input = section.system;
+    let size = 2 + 16 * input.count;
+    output_read(&file[size..], size, input)
 }

@@ -1,56 +1,30 @@
+-- `jobs::matrix_in` meets its contract: four numbers of 16 bits, each made 64 bits wide.
 use borrow.Author.Needs.{needs}
+use mathlib.Core.Path.{_∙_}
+use Rattle.whole.proofs.Machine.{element-16, widen-fits, widen-back}
+use Rattle.plane.proofs.Words.{entries}
+use Rattle.jobs.specs.Reading.{numbersAt}
 use Rattle.jobs.proofs.matrix_in.Statement.{statement}
 use Rattle.jobs.proofs.matrix_in.Tie as tie
-use Rattle.jobs.proofs.matrix_in.Reads as reads
-use Rattle.jobs.proofs.matrix_in.Lts as lts
-use Rattle.jobs.proofs.number_at.Reads as number-at-reads
 
--- src/lib.rt:134:9
-number-at-requires : tie.Need-number-at-requires
-number-at-requires c κs = search needs
-
--- src/lib.rt:134:9
-cast-t3 : tie.Need-cast-t3
-cast-t3 c = ?
-
--- src/lib.rt:135:9
-number-at-requires-2 : tie.Need-number-at-requires-2
-number-at-requires-2 c κs = search needs
-
--- src/lib.rt:135:9
-cast-t5 : tie.Need-cast-t5
-cast-t5 c = ?
-
--- src/lib.rt:136:9
-number-at-requires-3 : tie.Need-number-at-requires-3
-number-at-requires-3 c κs = search needs
-
--- src/lib.rt:136:9
-cast-t7 : tie.Need-cast-t7
-cast-t7 c = ?
-
--- src/lib.rt:137:9
-number-at-requires-4 : tie.Need-number-at-requires-4
-number-at-requires-4 c κs = search needs
-
--- src/lib.rt:137:9
-cast-t9 : tie.Need-cast-t9
-cast-t9 c = ?
-
--- src/lib.rt:129:1
 returns : tie.Need-returns
-returns c = ?
+unfolding numbersAt
+returns c = entries
+    (widen-back (element-16 _ (c .before .before .before .number-at .ok)) ∙ c .before .before .before .number-at .ensures)
+    (widen-back (element-16 _ (c .before .before .number-at2 .ok)) ∙ c .before .before .number-at2 .ensures)
+    (widen-back (element-16 _ (c .before .number-at3 .ok)) ∙ c .before .number-at3 .ensures)
+    (widen-back (element-16 _ (c .number-at4 .ok)) ∙ c .number-at4 .ensures)
 
 pub matrix-in-spec : {M : Type 1} → statement M
 matrix-in-spec =
     tie.close
     (tie.spec
-    number-at-requires
-    cast-t3
-    number-at-requires-2
-    cast-t5
-    number-at-requires-3
-    cast-t7
-    number-at-requires-4
-    cast-t9
+    (λ c κs. search needs)
+    (λ c. widen-fits (element-16 (c .number-at .result) (c .number-at .ok)))
+    (λ c κs. search needs)
+    (λ c. widen-fits (element-16 (c .number-at2 .result) (c .number-at2 .ok)))
+    (λ c κs. search needs)
+    (λ c. widen-fits (element-16 (c .number-at3 .result) (c .number-at3 .ok)))
+    (λ c κs. search needs)
+    (λ c. widen-fits (element-16 (c .number-at4 .result) (c .number-at4 .ok)))
     returns)

@@ -12,9 +12,6 @@ use Rattle.jobs.specs.Reading.{signed}
 use Rattle.jobs.proofs.Numbers.{signed-low, signed-high, less}
 use Rattle.jobs.proofs.number_at.Statement.{statement}
 use Rattle.jobs.proofs.number_at.Tie as tie
-use Rattle.jobs.proofs.number_at.Reads as reads
-use Rattle.jobs.proofs.number_at.Lts as lts
-use Rattle.jobs.proofs.pair_at.Reads as pair-at-reads
 
 returns : tie.Need-returns
 returns c = toZ-pos w16 (c .if1 .taken) ∙ signed-low _ (c .if1 .taken) ∙ ap signed (c .before .pair-at .ensures .0)

@@ -12,9 +12,6 @@ use Rattle.jobs.specs.Reading.{numbersAt}
 use Rattle.jobs.proofs.Numbers.{numbers-length, numbers-more, filled-more}
 use Rattle.jobs.proofs.rows_in.Statement.{statement}
 use Rattle.jobs.proofs.rows_in.Tie as tie
-use Rattle.jobs.proofs.rows_in.Reads as reads
-use Rattle.jobs.proofs.rows_in.Lts as lts
-use Rattle.jobs.proofs.number_at.Reads as number-at-reads
 
 abbrev Inv-loop : tie.InvT-loop
 Inv-loop bytes k rows₀ i₀ rows i = (i ≤ k) × (rows ≡ filled (numbersAt bytes 2 i))

@@ -1,100 +1,54 @@
+-- `jobs::system_section` meets its contract: one law for each way that a system's section can go. A whole section is judged as `digits::judged` judges it.
 use borrow.Author.Needs.{needs}
+use mathlib.Core.Path.{_≡_, sym, ap, ap₂, _∙_}
+use Prim.Native.Nat.{ℕ, _*_}
+use native.Mathlib.Omega.{arith}
+use denote.Ref.{now}
+use Rattle.digits.specs.Admission.{refusalNumber, admissionOf}
+use Rattle.digits.specs.BuiltIn.{filled}
+use Rattle.jobs.specs.Reading.{countOf, numbersAt, systemOf, systemJudged}
+use Rattle.jobs.proofs.Sections.{system-no-count, system-none, system-many, system-cut-off, system-whole}
 use Rattle.jobs.proofs.system_section.Statement.{statement}
 use Rattle.jobs.proofs.system_section.Tie as tie
-use Rattle.jobs.proofs.system_section.Reads as reads
-use Rattle.jobs.proofs.system_section.Lts as lts
-use Rattle.digits.proofs.judged.Reads as judged-reads
-use Rattle.digits.proofs.refusal_number.Reads as refusal-number-reads
-use Rattle.jobs.proofs.no_system.Reads as no-system-reads
-use Rattle.jobs.proofs.pair_at.Reads as pair-at-reads
-use Rattle.jobs.proofs.rows_in.Reads as rows-in-reads
 
--- src/lib.rt:101:9
-no-system-requires : tie.Need-no-system-requires
-no-system-requires c κs = search needs
-
--- src/lib.rt:101:9
-returns : tie.Need-returns
-returns c = ?
-
--- src/lib.rt:103:9
-pair-at-requires : tie.Need-pair-at-requires
-pair-at-requires c κs = search needs
-
--- src/lib.rt:105:9
-no-system-requires-2 : tie.Need-no-system-requires-2
-no-system-requires-2 c κs = search needs
-
--- src/lib.rt:105:9
-returns-2 : tie.Need-returns-2
-returns-2 c = ?
-
--- src/lib.rt:108:9
-no-system-requires-3 : tie.Need-no-system-requires-3
-no-system-requires-3 c κs = search needs
-
--- src/lib.rt:108:9
-returns-3 : tie.Need-returns-3
-returns-3 c = ?
-
--- src/lib.rt:110:26
-mul-if4 : tie.Need-mul-if4
-mul-if4 c = search needs
-
--- src/lib.rt:110:22
-add-if4 : tie.Need-add-if4
-add-if4 c = search needs
-
--- src/lib.rt:111:9
-no-system-requires-4 : tie.Need-no-system-requires-4
-no-system-requires-4 c κs = search needs
-
--- src/lib.rt:111:9
 returns-4 : tie.Need-returns-4
-returns-4 c = ?
+returns-4 c =
+    let p = c .before .before .before .before in
+    let b = now (p .before .before .before .args .bytes) in
+    c .no-system4 .ensures ∙ sym (system-cut-off b (omega arith) (omega (arith, p .pair-at .ensures)) (omega (arith, p .pair-at .ensures)) (omega (arith, p .pair-at .ensures)))
 
--- src/lib.rt:113:31
-mul-rows-in : tie.Need-mul-rows-in
-mul-rows-in c = search needs
-
--- src/lib.rt:113:16
-rows-in-requires : tie.Need-rows-in-requires
-rows-in-requires c κs = search needs
-
--- src/lib.rt:114:63
-slice-aggregate-judged : tie.Need-slice-aggregate-judged
-slice-aggregate-judged c = search needs
-
--- src/lib.rt:114:41
-judged-requires : tie.Need-judged-requires
-judged-requires c κs = search needs
-
--- src/lib.rt:114:9
-refusal-number-requires : tie.Need-refusal-number-requires
-refusal-number-requires c κs = search needs
-
--- src/lib.rt:97:1
 returns-5 : tie.Need-returns-5
-returns-5 c = ?
+unfolding systemOf
+returns-5 c =
+    let r = c .before .before .before in
+    let p = r .before .before .before .before in
+    let b = now (p .before .before .before .args .bytes) in
+    let n = p .pair-at .result in
+    let e : n ≡ countOf b = p .pair-at .ensures .0 in
+    let same : r .rows-in .result ≡ systemOf b .rows = r .rows-in .ensures ∙ ap (λ (k : ℕ). filled (numbersAt b 2 (8 * k))) e in
+    let number = c .refusal-number .ensures ∙ ap refusalNumber (c .before .judged .ensures) in
+    (λ i. record { number = number i; system = record { count = n; rows = r .rows-in .result } }) ∙
+    (λ i. systemJudged (record { count = e i; rows = same i })) ∙
+    sym (system-whole b (omega arith) (omega arith) (omega arith))
 
 pub system-section-spec : {M : Type 1} → statement M
 system-section-spec =
     tie.close
     (tie.spec
-    no-system-requires
-    returns
-    pair-at-requires
-    no-system-requires-2
-    returns-2
-    no-system-requires-3
-    returns-3
-    mul-if4
-    add-if4
-    no-system-requires-4
+    (λ c κs. search needs)
+    (λ c. c .no-system .ensures ∙ sym (system-no-count (now (c .before .before .before .args .bytes)) (omega arith)))
+    (λ c κs. search needs)
+    (λ c κs. search needs)
+    (λ c. c .no-system2 .ensures ∙ sym (system-none (now (c .before .before .before .before .before .args .bytes)) (omega arith) (omega arith)))
+    (λ c κs. search needs)
+    (λ c. c .no-system3 .ensures ∙ sym (system-many (now (c .before .before .before .before .before .before .args .bytes)) (omega arith) (omega arith)))
+    (λ c. search needs)
+    (λ c. search needs)
+    (λ c κs. search needs)
     returns-4
-    mul-rows-in
-    rows-in-requires
-    slice-aggregate-judged
-    judged-requires
-    refusal-number-requires
+    (λ c. search needs)
+    (λ c κs. search needs)
+    (λ c. search needs)
+    (λ c κs. search needs)
+    (λ c κs. search needs)
     returns-5)

@@ -1,43 +1,34 @@
+-- `jobs::word_number` meets its contract: one law for each way that a word's section can go.
 use borrow.Author.Needs.{needs}
+use mathlib.Core.Path.{_≡_, sym}
+use Prim.Native.Nat.{_+_, _≤_}
+use native.Mathlib.Omega.{arith}
+use lib.ListN.{length}
+use denote.Ref.{now}
+use Rattle.jobs.specs.Reading.{countOf}
+use Rattle.jobs.proofs.Sections.{word-no-count, word-wrong-count, word-cut-off, word-bytes-follow, word-reads}
 use Rattle.jobs.proofs.word_number.Statement.{statement}
 use Rattle.jobs.proofs.word_number.Tie as tie
-use Rattle.jobs.proofs.word_number.Reads as reads
-use Rattle.jobs.proofs.word_number.Lts as lts
-use Rattle.jobs.proofs.pair_at.Reads as pair-at-reads
 
--- src/lib.rt:169:9
-returns : tie.Need-returns
-returns c = ?
-
--- src/lib.rt:171:9
-pair-at-requires : tie.Need-pair-at-requires
-pair-at-requires c κs = search needs
-
--- src/lib.rt:173:9
-returns-2 : tie.Need-returns-2
-returns-2 c = ?
-
--- src/lib.rt:175:22
-add-if3 : tie.Need-add-if3
-add-if3 c = search needs
-
--- src/lib.rt:176:9
 returns-3 : tie.Need-returns-3
-returns-3 c = ?
+returns-3 c =
+    let p = c .before .before in
+    sym (word-cut-off (now (p .before .before .before .args .bytes)) (omega arith) (omega (arith, p .pair-at .ensures)) (omega (arith, p .pair-at .ensures)))
 
--- src/lib.rt:178:8
-add-if4 : tie.Need-add-if4
-add-if4 c = search needs
-
--- src/lib.rt:179:9
-returns-4 : tie.Need-returns-4
-returns-4 c = ?
-
--- src/lib.rt:165:1
 returns-5 : tie.Need-returns-5
-returns-5 c = ?
+returns-5 c =
+    let p = c .before .before .before in
+    sym (word-reads (now (p .before .before .before .args .bytes)) (omega (arith, p .pair-at .ensures)) (omega (arith, p .pair-at .ensures)))
 
 pub word-number-spec : {M : Type 1} → statement M
 word-number-spec =
     tie.close
-    (tie.spec returns pair-at-requires returns-2 add-if3 returns-3 add-if4 returns-4 returns-5)
+    (tie.spec
+    (λ c. sym (word-no-count (now (c .before .before .args .bytes)) (omega arith)))
+    (λ c κs. search needs)
+    (λ c. sym (word-wrong-count (now (c .before .before .before .before .args .bytes)) (omega arith) (omega arith)))
+    (λ c. search needs)
+    returns-3
+    (λ c. search needs)
+    (λ c. sym (word-bytes-follow (now (c .before .before .before .before .before .before .args .bytes)) (omega arith) (omega arith)))
+    returns-5)
