@@ -5,3 +5,6 @@
 pub mod Numbers
 pub mod Sections
 pub mod Ways
+pub mod Begins
+pub mod Sixteen
+pub mod SystemSays
