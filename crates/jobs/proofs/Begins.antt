@@ -66,8 +66,8 @@ section-read {bytes} {n} {k} {zs} s =
       count = c .count;
       size = c .size ∙ ap (λ (m : ℕ). 2 + m) (length-append (numbersBytes zs) more) ∙ omega (arith, numbers-bytes-length zs);
       numbers =
-        sym (numbers-drop bytes 2 0 k) ∙ ap (λ (r : List ℕ). numbersAt r 0 k) (c .rest) ∙ ap (numbersAt (numbersBytes zs ++ more) 0) (sym l) ∙
-        numbers-read zs more (s .numbers);
+          sym (numbers-drop bytes 2 0 k) ∙ ap (λ (r : List ℕ). numbersAt r 0 k) (c .rest) ∙ ap (numbersAt (numbersBytes zs ++ more) 0) (sym l) ∙
+          numbers-read zs more (s .numbers);
       rest = sym (drop-drop (2 * k) 2 bytes) ∙ ap (drop (2 * k)) (c .rest) ∙ drop-at (numbersBytes zs) more (2 * k) (omega (arith, numbers-bytes-length zs));
     }
 

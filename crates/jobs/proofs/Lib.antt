@@ -8,3 +8,6 @@ pub mod Ways
 pub mod Begins
 pub mod Sixteen
 pub mod SystemSays
+pub mod MatrixSays
+pub mod WordSays
+pub mod ReadsExactly

@@ -16,7 +16,18 @@ use Rattle.plane.specs.Plane.{determinantOf}
 use Rattle.digits.specs.Admission.{within?}
 use Rattle.digits.proofs.RowSays.{within-says, says-within, false-by}
 use Rattle.jobs.specs.Reading.{
-  countOf, numbersAt, systemOf, systemSize, systemRefused, systemJudged, systemSection, matrixRefused, matrixJudged, matrixSection, wordNumber, noMatrix,
+  countOf,
+  numbersAt,
+  systemOf,
+  systemSize,
+  systemRefused,
+  systemJudged,
+  systemSection,
+  matrixRefused,
+  matrixJudged,
+  matrixSection,
+  wordNumber,
+  noMatrix,
 }
 
 module _ (bytes : List ℕ) where

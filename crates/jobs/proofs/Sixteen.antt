@@ -24,7 +24,7 @@ near-16 (negsuc n) l h = record { from = record { le = le→leb n 32767 (omega (
 -- the numbers of a list, and 0 behind them
 list-16 : {b : ℕ} (zs : List ℤ) → b ≤ 32767 → ((i : ℕ) → i < length zs → Near b (at zs i)) → Sixteen zs
 list-16 zs l h i = elim (le-or-lt (length zs) i) [
-  inl k ↦ rw (List·getD-eq-default zs (pos 0) k) (near-16 {b = 0} (pos 0) (omega arith) (record { near = omega arith }))
+  | inl k ↦ rw (List·getD-eq-default zs (pos 0) k) (near-16 {b = 0} (pos 0) (omega arith) (record { near = omega arith }))
   | inr k ↦ near-16 (at zs i) l (h i k)
 ]
 
@@ -51,7 +51,7 @@ four {b} rows p w j h = subst (Near b) (four-is rows p j h) (within-at (fourAt r
 
 eight : {b : ℕ} (rows : List ℤ) (p : ℕ) → Within b (fourAt rows p) → Within b (fourAt rows (p + 4)) → (j : ℕ) → j < 8 → Near b (at rows (p + j))
 eight {b} rows p f w j h = elim (le-or-lt 4 j) [
-  inr k ↦ four rows p f j k
+  | inr k ↦ four rows p f j k
   | inl k ↦ let e : p + 4 + (j - 4) ≡ p + j = omega arith in subst (λ (q : ℕ). Near b (at rows q)) e (four rows (p + 4) w (j - 4) (omega arith))
 ]
 
@@ -75,7 +75,7 @@ system-16 {s} h =
     let n = 8 * s .count in
     list-16 {b = 100} (take n (s .rows)) (omega arith)
     (λ i k. let l : i < n = omega (arith, rows-length h) in
-      rw (getD-take n (s .rows) i (pos 0)) (in-row (s .rows) (s .count) (h .admissible .digits) i l))
+    rw (getD-take n (s .rows) i (pos 0)) (in-row (s .rows) (s .count) (h .admissible .digits) i l))
 
 -- ---- a matrix
 

@@ -65,13 +65,13 @@ Says bytes r = SystemSays bytes (r .system) (r .number)
 
 pub system-says : (bytes : List ℕ) → Bytes bytes → SystemSays bytes (systemSection bytes .system) (systemSection bytes .number)
 system-says bytes h = elim (system-way bytes) [
-  SystemWay.no-count l ↦ subst (Says bytes) (sym (system-no-count bytes l)) (BreaksSystem.no-count l)
+  | SystemWay.no-count l ↦ subst (Says bytes) (sym (system-no-count bytes l)) (BreaksSystem.no-count l)
   | SystemWay.none l e ↦ subst (Says bytes) (sym (system-none bytes l e)) (BreaksSystem.wrong-count (counted h l) (inl e))
   | SystemWay.many l e ↦ subst (Says bytes) (sym (system-many bytes l e)) (BreaksSystem.wrong-count (counted h l) (inr e))
   | SystemWay.cut-off l some few s ↦
-    subst (Says bytes) (sym (system-cut-off bytes l some few s)) (BreaksSystem.cut-off (counted h l) some few (omega (arith, length-drop 2 bytes)))
+      subst (Says bytes) (sym (system-cut-off bytes l some few s)) (BreaksSystem.cut-off (counted h l) some few (omega (arith, length-drop 2 bytes)))
   | SystemWay.whole some few fits ↦
-    subst (Says bytes) (sym (system-whole bytes some few fits)) (by-verdict h some few fits (admissionOf (systemOf bytes .count) (systemOf bytes .rows)) (admitted-says (systemOf bytes .count) (systemOf bytes .rows)))
+      subst (Says bytes) (sym (system-whole bytes some few fits)) (by-verdict h some few fits (admissionOf (systemOf bytes .count) (systemOf bytes .rows)) (admitted-says (systemOf bytes .count) (systemOf bytes .rows)))
 ]
 
 -- ---- and back: where a sentence holds, its number is given
@@ -94,17 +94,17 @@ of-case {bytes} {n} {zs} v s some few c =
 
 pub system-number : (bytes : List ℕ) (k : ℕ) → BreaksSystem bytes k → systemSection bytes .number ≡ k
 system-number bytes k b = elim b [
-  BreaksSystem.no-count {bytes} l ↦ ap (λ (r : SystemSection). r .number) (system-no-count bytes l)
+  | BreaksSystem.no-count {bytes} l ↦ ap (λ (r : SystemSection). r .number) (system-no-count bytes l)
   | BreaksSystem.wrong-count {bytes} {more} {n} c w ↦
-    let r = count-read n (c .begins) in
-    elim w [
-      inl e ↦ ap (λ (r : SystemSection). r .number) (system-none bytes (omega (arith, r .size)) (r .count ∙ e))
-      | inr e ↦ ap (λ (r : SystemSection). r .number) (system-many bytes (omega (arith, r .size)) (omega (arith, r .count)))
-    ]
+      let r = count-read n (c .begins) in
+      elim w [
+        | inl e ↦ ap (λ (r : SystemSection). r .number) (system-none bytes (omega (arith, r .size)) (r .count ∙ e))
+        | inr e ↦ ap (λ (r : SystemSection). r .number) (system-many bytes (omega (arith, r .size)) (omega (arith, r .count)))
+      ]
   | BreaksSystem.cut-off {bytes} {more} {n} c some few s ↦
-    let r = count-read n (c .begins) in
-    ap (λ (r : SystemSection). r .number)
-    (system-cut-off bytes (omega (arith, r .size)) (omega (arith, r .count)) (omega (arith, r .count)) (omega (arith, r .count, r .size)))
+      let r = count-read n (c .begins) in
+      ap (λ (r : SystemSection). r .number)
+      (system-cut-off bytes (omega (arith, r .size)) (omega (arith, r .count)) (omega (arith, r .count)) (omega (arith, r .count, r .size)))
   | BreaksSystem.out-of-range s f ↦ of-case OutOfRange s (f .some-digits) (f .few-digits) f
   | BreaksSystem.not-above s f ↦ of-case NotAbove s (f .some-digits) (f .few-digits) f
   | BreaksSystem.not-below s f ↦ of-case NotBelow s (f .some-digits) (f .few-digits) f
@@ -114,7 +114,7 @@ system-number bytes k b = elim b [
 
 pub system-not-0 : (bytes : List ℕ) (k : ℕ) → BreaksSystem bytes k → k ≡ 0 → ⊥
 system-not-0 bytes k b = elim b [
-  BreaksSystem.no-count l ↦ λ e. omega arith
+  | BreaksSystem.no-count l ↦ λ e. omega arith
   | BreaksSystem.wrong-count c w ↦ λ e. omega arith
   | BreaksSystem.cut-off c some few s ↦ λ e. omega arith
   | BreaksSystem.out-of-range s f ↦ λ e. omega arith
@@ -143,8 +143,8 @@ system-read {bytes} s more h e =
     let same : record { count = n; rows = filled zs } ≡ s = λ i. record { count = n; rows = sym (h .unused) i } in
     record {
       section =
-        of-numbers w (a .some-digits) (a .few-digits) ∙ ap systemJudged same ∙
-        (λ i. record { number = refusalNumber (sym (admitted-only n (s .rows) Admitted a) i); system = s });
+          of-numbers w (a .some-digits) (a .few-digits) ∙ ap systemJudged same ∙
+          (λ i. record { number = refusalNumber (sym (admitted-only n (s .rows) Admitted a) i); system = s });
       size = size;
       rest = ap (λ (k : ℕ). drop k bytes) d ∙ f .rest;
     }

@@ -15,7 +15,17 @@ use Rattle.jobs.specs.declared.Reading.{Reading}
 use Rattle.jobs.specs.declared.SystemSection.{SystemSection}
 use Rattle.jobs.specs.declared.MatrixSection.{MatrixSection}
 use Rattle.jobs.proofs.Sections.{
-  system-no-count, system-none, system-many, system-cut-off, system-whole, matrix-no-count, matrix-wrong-count, matrix-cut-off, word-no-count, word-wrong-count, word-cut-off,
+  system-no-count,
+  system-none,
+  system-many,
+  system-cut-off,
+  system-whole,
+  matrix-no-count,
+  matrix-wrong-count,
+  matrix-cut-off,
+  word-no-count,
+  word-wrong-count,
+  word-cut-off,
   word-bytes-follow,
 }
 
@@ -49,11 +59,11 @@ pub data WordWay (bytes : List ℕ) : Type 0 where
 module _ (bytes : List ℕ) where
   pub system-way : SystemWay bytes
   system-way = elim (le-or-lt 2 (length bytes)) [
-    inr h ↦ no-count h
+    | inr h ↦ no-count h
     | inl h ↦ elim (le-or-lt 1 (countOf bytes)) [
-      inr n ↦ none h (omega arith)
+      | inr n ↦ none h (omega arith)
       | inl k ↦ elim (le-or-lt (countOf bytes) 16) [
-        inr n ↦ many h n
+        | inr n ↦ many h n
         | inl l ↦ elim (le-or-lt (systemSize bytes) (length bytes)) [ inl s ↦ whole k l s | inr s ↦ cut-off h k l s ]
       ]
     ]
@@ -61,20 +71,20 @@ module _ (bytes : List ℕ) where
 
   pub matrix-way : MatrixWay bytes
   matrix-way = elim (le-or-lt 2 (length bytes)) [
-    inr h ↦ no-count h
+    | inr h ↦ no-count h
     | inl h ↦ elim (ℕ-discrete (countOf bytes) 4) [
-      no n ↦ wrong-count h n
+      | no n ↦ wrong-count h n
       | yes e ↦ elim (le-or-lt 10 (length bytes)) [ inl s ↦ whole e s | inr s ↦ cut-off h e s ]
     ]
   ]
 
   pub word-way : WordWay bytes
   word-way = elim (le-or-lt 2 (length bytes)) [
-    inr h ↦ no-count h
+    | inr h ↦ no-count h
     | inl h ↦ elim (le-or-lt (countOf bytes) 4096) [
-      inr n ↦ wrong-count h n
+      | inr n ↦ wrong-count h n
       | inl k ↦ elim (le-or-lt (2 + countOf bytes) (length bytes)) [
-        inr s ↦ cut-off h k s
+        | inr s ↦ cut-off h k s
         | inl s ↦ elim (le-or-lt (length bytes) (2 + countOf bytes)) [ inl t ↦ whole k (omega arith) | inr t ↦ bytes-follow k t ]
       ]
     ]
@@ -104,7 +114,7 @@ clash-matrix bytes e n = sym (ap (λ (s : MatrixSection). s .number) e) ∙ n
 
 pub system-present : (bytes : List ℕ) → systemSection bytes .number ≡ 0 → SystemPresent bytes
 system-present bytes e = elim (system-way bytes) [
-  no-count h ↦ absurd (omega (arith, clash bytes (system-no-count bytes h) e))
+  | no-count h ↦ absurd (omega (arith, clash bytes (system-no-count bytes h) e))
   | none h n ↦ absurd (omega (arith, clash bytes (system-none bytes h n) e))
   | many h n ↦ absurd (omega (arith, clash bytes (system-many bytes h n) e))
   | cut-off h k l s ↦ absurd (omega (arith, clash bytes (system-cut-off bytes h k l s) e))
@@ -113,7 +123,7 @@ system-present bytes e = elim (system-way bytes) [
 
 pub matrix-present : (bytes : List ℕ) → matrixSection bytes .number ≡ 0 → MatrixPresent bytes
 matrix-present bytes e = elim (matrix-way bytes) [
-  no-count h ↦ absurd (omega (arith, clash-matrix bytes (matrix-no-count bytes h) e))
+  | no-count h ↦ absurd (omega (arith, clash-matrix bytes (matrix-no-count bytes h) e))
   | wrong-count h n ↦ absurd (omega (arith, clash-matrix bytes (matrix-wrong-count bytes h n) e))
   | cut-off h k s ↦ absurd (omega (arith, clash-matrix bytes (matrix-cut-off bytes h k s) e))
   | whole k s ↦ record { four = k; fits = s }
@@ -121,7 +131,7 @@ matrix-present bytes e = elim (matrix-way bytes) [
 
 pub word-present : (bytes : List ℕ) → wordNumber bytes ≡ 0 → WordPresent bytes
 word-present bytes e = elim (word-way bytes) [
-  no-count h ↦ absurd (omega (arith, word-no-count bytes h))
+  | no-count h ↦ absurd (omega (arith, word-no-count bytes h))
   | wrong-count h n ↦ absurd (omega (arith, word-wrong-count bytes h n))
   | cut-off h k s ↦ absurd (omega (arith, word-cut-off bytes h k s))
   | bytes-follow k s ↦ absurd (omega (arith, word-bytes-follow bytes k s))

@@ -193,7 +193,10 @@ fn refused(number: u8, section: u8) -> Reading
         count: 0,
         rows: [0i16; 128],
     };
-    let word = Word { start: 0, length: 0 };
+    let word = Word {
+        start: 0,
+        length: 0,
+    };
     let job = Job {
         input,
         output,

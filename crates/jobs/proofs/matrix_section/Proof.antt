@@ -60,8 +60,8 @@ matrix-section-spec =
     (λ c κs. search needs)
     (λ c κs. search needs)
     (λ c. let p = c .before .before in
-      c .no-matrix2 .ensures ∙
-      sym (matrix-wrong-count (now (p .before .before .before .args .bytes)) (omega arith) (λ e. c .before .if2 .taken (p .pair-at .ensures .0 ∙ e))))
+    c .no-matrix2 .ensures ∙
+    sym (matrix-wrong-count (now (p .before .before .before .args .bytes)) (omega arith) (λ e. c .before .if2 .taken (p .pair-at .ensures .0 ∙ e))))
     (λ c κs. search needs)
     returns-3
     (λ c κs. search needs)

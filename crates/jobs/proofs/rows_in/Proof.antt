@@ -27,10 +27,11 @@ loop-again : tie.Need-loop-again Inv-loop μ-loop
 loop-again c =
     let l = c .before .before .loop in
     let bytes = now (c .before .before .before .before .args .bytes) in
-    let z = toZ-ofZ (element-16 _ (c .number-at .ok)) ∙ c .number-at .ensures in
-    (search needs,
-    ap₂ (λ r x. set r (l .i) x) (l .inv .1) z ∙ filled-more (numbersAt bytes 2 (l .i)) _ (l .i) (numbers-length bytes 2 (l .i)) (omega arith) ∙
-    ap filled (sym (numbers-more bytes 2 (l .i))))
+    let z = toZ-ofZ (element-16 _ (c .number-at .ok)) ∙ c .number-at .ensures in (
+      search needs,
+      ap₂ (λ r x. set r (l .i) x) (l .inv .1) z ∙ filled-more (numbersAt bytes 2 (l .i)) _ (l .i) (numbers-length bytes 2 (l .i)) (omega arith) ∙
+          ap filled (sym (numbers-more bytes 2 (l .i))),
+    )
 
 returns : tie.Need-returns Inv-loop μ-loop
 returns c = let e : c .before .loop .i ≡ c .before .before .before .args .k = omega arith in c .before .loop .inv .1 ∙ ap (λ (i : ℕ). filled (numbersAt (now (c .before .before .before .args .bytes)) 2 i)) e
