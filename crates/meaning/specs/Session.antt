@@ -6,19 +6,22 @@ use mathlib.Core.List.{List, [], _∷_, _++_}
 use Prim.Native.Nat.{ℕ}
 use lib.ListN.{take}
 use lib.IntN.{ℤ}
+use Rattle.plane.specs.Plane.{Pair, Point, SamePoint, apply, multiplyOf}
 use Rattle.digits.specs.Admitted.{Admissible}
 use Rattle.digits.specs.declared.System.{System}
 use Rattle.unary.specs.declared.Held.{Held}
 use Rattle.unary.specs.declared.Held.the-variants.{Nothing, Digit}
 use Rattle.unary.specs.declared.State.{State}
 use Rattle.unary.specs.declared.Next.{Next}
-use Rattle.unary.specs.declared.Kind.the-variants.{Load, Give, Absorb, Halt}
+use Rattle.unary.specs.declared.Kind.the-variants.{Load, Give, Absorb}
 use Rattle.unary.specs.declared.Opening.the-variants.{Opens}
 use Rattle.unary.specs.State.{openOf}
 use Rattle.unary.specs.Step.{Systems, stepOf}
-use Rattle.unary.specs.Run.{runOf}
+use Rattle.unary.specs.Run.{Ran, systems, runOf}
+use Rattle.meaning.specs.Names.{namedFrom, productOf, EachInItsInterval, HeldInItsInterval, UpToScale}
 
--- `Session a b m taken given s`: a session on the input system a and the output system b, opened for m, that has taken these bytes, given out these digits and is in state s
+-- `Session a b m taken given s`: a session on the input system a and the output system b, opened for m, that has taken these bytes, given out these digits and is in
+-- state s
 pub data Session (a b : System) (m : List ℤ) : List ℕ → List ℕ → State → Type 0 where
   opened : Admissible (a .count) (a .rows) → Admissible (b .count) (b .rows) → openOf m .opening ≡ Opens → Session a b m [] [] (openOf m .state)
   called : {taken given : List ℕ} {s : State} → Session a b m taken given s → (input output : List ℕ) →
@@ -41,3 +44,32 @@ pub data Moment (y : Systems) (m : List ℤ) : List ℕ → List ℕ → State �
       stepOf y s next room .kind ≡ Give b → Moment y m absorbed (given ++ b ∷ []) (stepOf y s next room .state)
   took-in : {absorbed given : List ℕ} {s : State} → Moment y m absorbed given s → (next : Next) (room : Bool) (a : ℕ) →
       s .held ≡ Digit a → stepOf y s next room .kind ≡ Absorb → Moment y m (absorbed ++ a ∷ []) given (stepOf y s next room .state)
+
+-- What is said of the numbers. "With t the number named by the input not yet absorbed, X(t) is named by the output still to come": X(t) is a point; in front of it the
+-- output digits name what the job's matrix makes of the number that the input names; and the number named from each output digit on lies in that digit's closed interval.
+pub record Numbers (y : Systems) (m : List ℤ) (absorbed given : List ℕ) (s : State) (t : Pair) : Type 0 where
+  pub still-to-come : Point (apply (s .matrix) t)
+  pub same-number : SamePoint (namedFrom (y .out-rows) given (apply (s .matrix) t)) (apply m (namedFrom (y .in-rows) absorbed t))
+  pub each-in-its-interval : EachInItsInterval (y .out-rows) given (apply (s .matrix) t)
+
+-- The two claims, of a session on the systems a and b for the matrix m where these bytes are taken, these digits are given out and the state is s. The absorbed
+-- digits are the bytes taken without the held one; there is always such a list (`session-moment`), and no other.
+--
+-- The product of the output digits' transformations times the state equals, up to a positive scale, the job's matrix times the product of the absorbed digits'
+-- transformations.
+abbrev pub ProductHolds : System → System → List ℤ → List ℕ → List ℕ → State → Type 0
+ProductHolds a b m taken given s =
+    (absorbed : List ℕ) → absorbed ++ held (s .held) ≡ taken →
+    UpToScale (multiplyOf (productOf (b .rows) given) (s .matrix)) (multiplyOf m (productOf (a .rows) absorbed))
+
+-- For every point t, a fraction or infinity, as the number named by the input not yet absorbed, the held digit included: if the number named from each absorbed digit
+-- on, and from the held one on, lies in that digit's closed interval, then what `Numbers` says.
+abbrev pub NumbersHold : System → System → List ℤ → List ℕ → List ℕ → State → Type 0
+NumbersHold a b m taken given s =
+    (absorbed : List ℕ) → absorbed ++ held (s .held) ≡ taken →
+    (t : Pair) → Point t → EachInItsInterval (a .rows) absorbed t → HeldInItsInterval (a .rows) (s .held) t →
+    Numbers (systems a b) m absorbed given s t
+
+-- a claim on the bytes taken, the digits given out and the state, where a call now stands that began with `taken` and `given`
+abbrev pub During : (List ℕ → List ℕ → State → Type 0) → List ℕ → List ℕ → List ℕ → Ran → Type 0
+During claim taken given input r = claim (taken ++ take (r .answer .taken .0) input) (given ++ take (r .answer .written .0) (r .output)) (r .answer .state)

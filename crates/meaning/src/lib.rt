@@ -1,1 +1,1 @@
-// Theorems only: see specs/ for what is said of a session, and proofs/ for why it holds. A crate has at least one function.
+// Theorems only: specs/ has what is said of a session, and proofs/ why it holds.

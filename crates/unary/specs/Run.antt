@@ -1,9 +1,9 @@
 -- A run: the step, again and again, until one stops; and what is judged before any step.
 use mathlib.Core.Bool.{Bool, true, false, cond}
-use mathlib.Core.List.{List}
+use mathlib.Core.List.{List, _++_}
 use Prim.Native.Nat.{ℕ, zero, suc, _+_, _*_, _-_}
 use lib.Dec.{ltb, eqb}
-use lib.ListN.{getD, set, length}
+use lib.ListN.{getD, set, length, take}
 use Rattle.digits.specs.Admission.{refusalNumber, admissionOf}
 use Rattle.digits.specs.declared.System.{System}
 use Rattle.unary.specs.declared.Held.{Held}
@@ -57,6 +57,20 @@ heldCount (Digit d) = 1
 abbrev pub left : List ℕ → State → ℕ → List ℕ → ℕ → ℕ
 left inp s i out o = 2 * (length inp - i) + heldCount (s .held) + (length out - o)
 
+-- the steps that a run makes, the one that stops among them: how many follow a step of each kind
+abbrev pub countAfter : (State → ℕ → List ℕ → ℕ → ℕ) → Kind → State → ℕ → List ℕ → ℕ → ℕ
+countAfter more Load s i out o = more s (i + 1) out o
+countAfter more (Give b) s i out o = more s i (set out o b) (o + 1)
+countAfter more Absorb s i out o = more s i out o
+countAfter more (Halt e) s i out o = 0
+
+unfoldable pub countBy : Systems → List ℕ → ℕ → State → ℕ → List ℕ → ℕ → ℕ
+countBy y inp zero s i out o = 0
+countBy y inp (suc k) s i out o = suc (countAfter (countBy y inp k) (moveAt y inp s i out o .kind) (moveAt y inp s i out o .state) i out o)
+
+unfoldable pub stepsMade : Systems → State → List ℕ → List ℕ → ℕ
+stepsMade y s inp out = countBy y inp (suc (left inp s 0 out 0)) s 0 out 0
+
 unfoldable pub stepsOf : Systems → State → List ℕ → List ℕ → Ran
 stepsOf y s inp out = runBy y inp (suc (left inp s 0 out 0)) s 0 out 0
 
@@ -81,3 +95,23 @@ systems a b = record { ins = a .count; in-rows = a .rows; outs = b .count; out-r
 
 unfoldable pub runOf : System → System → State → List ℕ → List ℕ → Ran
 runOf a b s inp out = judgedOf (systems a b) s inp out (refusalOf (systems a b) s)
+
+-- the steps of a judged run: none where it is refused
+abbrev pub judgedSteps : Systems → State → List ℕ → List ℕ → ℕ → ℕ
+judgedSteps y s inp out zero = stepsMade y s inp out
+judgedSteps y s inp out (suc number) = 0
+
+unfoldable pub runSteps : System → System → State → List ℕ → List ℕ → ℕ
+runSteps a b s inp out = judgedSteps (systems a b) s inp out (refusalOf (systems a b) s)
+
+-- two runs, the second into the room that the first left: the counts add up, the digits are appended, the end and the state are the second's
+abbrev pub followedBy : Ran → Ran → Ran
+followedBy r q = record {
+  answer = record {
+    stop = q .answer .stop;
+    taken = record { 0 = r .answer .taken .0 + q .answer .taken .0 };
+    written = record { 0 = r .answer .written .0 + q .answer .written .0 };
+    state = q .answer .state;
+  };
+  output = take (r .answer .written .0) (r .output) ++ q .output;
+}

@@ -5,7 +5,7 @@ use mathlib.Core.List.{List, [], _∷_}
 use Prim.Native.Nat.{ℕ, _<_}
 use lib.Dec.{ltb, eqb}
 use lib.IntN.{ℤ, pos}
-use lib.Signed.{ltZ, _<ℤ_}
+use lib.Signed.{ltZ, _≤ℤ_, _<ℤ_}
 use Rattle.whole.specs.Range.{Within}
 use Rattle.whole.specs.Divisor.{gcd4}
 use Rattle.plane.specs.Plane.{determinantOf, cancelOf}
@@ -70,3 +70,15 @@ openOf m =
     cond (within? 1000 m)
     (cond (ltZ (pos 0) (determinantOf m)) (record { opening = Opens; state = record { matrix = cancelOf m; held = Nothing } }) (refusedStart NotAbove))
     (refusedStart OutOfRange)
+
+-- when each answer of opening is given, in document 01's words
+abbrev pub OpeningCase : List ℤ → Opening → Type 0
+OpeningCase m Opens = Within 1000 m × (pos 0 <ℤ determinantOf m)
+OpeningCase m OutOfRange = Within 1000 m → ⊥
+OpeningCase m NotAbove = Within 1000 m × (determinantOf m ≤ℤ pos 0)
+
+-- what each answer of opening hands out
+abbrev pub startOf : List ℤ → Opening → Start
+startOf m Opens = record { opening = Opens; state = record { matrix = cancelOf m; held = Nothing } }
+startOf m OutOfRange = refusedStart OutOfRange
+startOf m NotAbove = refusedStart NotAbove

@@ -340,19 +340,13 @@ fn refusal(ins: usize, fw: &[i16], outs: usize, gu: &[i16], s: State) -> u8
 }
 
 // A run: bytes of the input are taken and digits are written to the output until a step stops. Of any two systems, any state, any input and any output at all.
-pub fn run(
-    input_system: System,
-    output_system: System,
-    state: State,
-    input: &[u8],
-    output: &mut [u8],
-) -> Answer
-    ensures { λ r. ⌜ (r ≡ runOf input_system output_system state (now (input .entry)) (now (output .entry)) .answer) × (now (output .exit) ≡ runOf input_system output_system state (now (input .entry)) (now (output .entry)) .output) ⌝ }
+pub fn run(inputs: System, outputs: System, state: State, input: &[u8], output: &mut [u8]) -> Answer
+    ensures { λ r. ⌜ (r ≡ runOf inputs outputs state (now (input .entry)) (now (output .entry)) .answer) × (now (output .exit) ≡ runOf inputs outputs state (now (input .entry)) (now (output .entry)) .output) ⌝ }
 {
-    let ins = input_system.count;
-    let fw = input_system.rows;
-    let outs = output_system.count;
-    let gu = output_system.rows;
+    let ins = inputs.count;
+    let fw = inputs.rows;
+    let outs = outputs.count;
+    let gu = outputs.rows;
     let number = refusal(ins, &fw, outs, &gu, state);
     if number != 0 {
         return Answer {

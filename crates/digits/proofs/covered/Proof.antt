@@ -14,8 +14,6 @@ use Rattle.digits.specs.Admission.{goneOn?}
 use Rattle.digits.proofs.First.{hit, miss, over}
 use Rattle.digits.proofs.covered.Statement.{statement}
 use Rattle.digits.proofs.covered.Tie as tie
-use Rattle.digits.proofs.covered.Reads as reads
-use Rattle.digits.proofs.covered.Lts as lts
 
 abbrev test : List ℤ → ℕ → ℕ → Bool
 test rows n a = not (goneOn? rows n (intervalOf rows a))

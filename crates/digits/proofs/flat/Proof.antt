@@ -10,8 +10,6 @@ use lib.ListN.{getD, length, length-set}
 use Rattle.digits.specs.System.{putRow, putRows}
 use Rattle.digits.proofs.flat.Statement.{statement}
 use Rattle.digits.proofs.flat.Tie as tie
-use Rattle.digits.proofs.flat.Reads as reads
-use Rattle.digits.proofs.flat.Lts as lts
 
 abbrev Inv-loop : tie.InvT-loop
 Inv-loop table rows₀ a₀ rows a = (a ≤ 16) × (length rows ≡ 128) × (rows ≡ putRows table a)

@@ -6,9 +6,6 @@ use Rattle.plane.proofs.Words.{entries}
 use Rattle.digits.specs.System.{fourAt}
 use Rattle.digits.proofs.four_at.Statement.{statement}
 use Rattle.digits.proofs.four_at.Tie as tie
-use Rattle.digits.proofs.four_at.Reads as reads
-use Rattle.digits.proofs.four_at.Lts as lts
-use Rattle.digits.proofs.number_at.Reads as number-at-reads
 
 number-at-requires : tie.Need-number-at-requires
 number-at-requires c κs = search needs

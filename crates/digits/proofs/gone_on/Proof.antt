@@ -14,8 +14,6 @@ use Rattle.digits.specs.Admission.{goesOn?}
 use Rattle.digits.proofs.First.{hit, miss, over}
 use Rattle.digits.proofs.gone_on.Statement.{statement}
 use Rattle.digits.proofs.gone_on.Tie as tie
-use Rattle.digits.proofs.gone_on.Reads as reads
-use Rattle.digits.proofs.gone_on.Lts as lts
 
 abbrev test : List ℤ → List ℤ → ℕ → Bool
 test rows v b = goesOn? v (intervalOf rows b)

@@ -5,8 +5,6 @@ use native.Mathlib.Omega.{arith}
 use Rattle.digits.specs.Admission.{admissionOf}
 use Rattle.digits.proofs.judged.Statement.{statement}
 use Rattle.digits.proofs.judged.Tie as tie
-use Rattle.digits.proofs.judged.Reads as reads
-use Rattle.digits.proofs.judged.Lts as lts
 
 returns : tie.Need-returns
 unfolding admissionOf

@@ -15,8 +15,6 @@ use Rattle.whole.specs.Range.{at}
 use Rattle.digits.specs.System.{putRow}
 use Rattle.digits.proofs.put_row.Statement.{statement}
 use Rattle.digits.proofs.put_row.Tie as tie
-use Rattle.digits.proofs.put_row.Reads as reads
-use Rattle.digits.proofs.put_row.Lts as lts
 
 abbrev Inv-loop : tie.InvT-loop
 Inv-loop rows₀ p row j₀ rows j = (j ≤ 8) × (length rows ≡ length rows₀) × (rows ≡ putRow rows₀ p row j)

@@ -17,8 +17,6 @@ use Rattle.digits.proofs.First.{hit, miss, over, first-none}
 use Rattle.digits.proofs.AdmittedSays.{digit-says, small}
 use Rattle.digits.proofs.rows_verdict.Statement.{statement}
 use Rattle.digits.proofs.rows_verdict.Tie as tie
-use Rattle.digits.proofs.rows_verdict.Reads as reads
-use Rattle.digits.proofs.rows_verdict.Lts as lts
 
 abbrev test : List ℤ → ℕ → Bool
 test rows a = refused? (verdictOfRow rows a)

@@ -1,0 +1,97 @@
+-- A run goes from moment to moment: if a run starts at a moment of a session, it is at one after every step.
+-- The argument: a run is the step, again and again, with i bytes taken and o digits written so far. What stands in `take i input` is taken, and what stands in `take
+-- o out` is written; each kind of step moves one byte or one digit over, or none, and makes of the moment before it the moment after it (`after-reaches`). "Absorbed,
+-- not taken: the held digit is not yet absorbed": the bytes taken are the absorbed digits and behind them the held one, so a byte that is loaded stands there as held
+-- and is absorbed later.
+use mathlib.Core.Path.{_≡_, refl, sym, _∙_, ap, subst}
+use mathlib.Core.Bool.{Bool, true, false, cond}
+use mathlib.Core.List.{List, [], _∷_, _++_, append-nil, append-assoc}
+use Prim.Native.Nat.{ℕ, zero, suc, _+_, _<_}
+use native.Mathlib.Omega.{arith}
+use native.Mathlib.Numerals.{add-one}
+use borrow.Author.Tests.{ltb-true}
+use lib.Dec.{ltb}
+use lib.ListN.{length, getD, take, set}
+use lib.Seq.{take-suc, take-suc-set}
+use lib.IntN.{ℤ}
+use Rattle.unary.specs.declared.Held.{Held}
+use Rattle.unary.specs.declared.State.{State}
+use Rattle.unary.specs.declared.Next.the-variants.{Byte, End}
+use Rattle.unary.specs.declared.Kind.{Kind}
+use Rattle.unary.specs.declared.Kind.the-variants.{Load, Give, Absorb, Halt}
+use Rattle.unary.specs.Step.{Systems}
+use Rattle.unary.specs.Run.{Ran, nextAt, moveAt, after, runBy}
+use Rattle.meaning.specs.Session.{held, Moment, loaded, gave, took-in, During}
+use Rattle.meaning.proofs.Steps.{step-did}
+
+-- a moment, with the bytes taken until then
+pub record Reached (y : Systems) (m : List ℤ) (taken given : List ℕ) (s : State) : Type 0 where
+  pub absorbed : List ℕ
+  pub moment : Moment y m absorbed given s
+  pub all-taken : absorbed ++ held (s .held) ≡ taken
+
+-- ---- one more byte taken, one more digit written
+
+-- the byte that a step found next
+next-byte : (input : List ℕ) (i b : ℕ) → nextAt input i ≡ Byte b → (i < length input) × (getD input i 0 ≡ b)
+next-byte input i b = known (ltb i (length input)) refl
+  where
+    known : (c : Bool) → ltb i (length input) ≡ c → cond c (Byte (getD input i 0)) End ≡ Byte b → (i < length input) × (getD input i 0 ≡ b)
+    known true l e = (ltb-true i (length input) l, cc)
+    known false l e = let z : _≡_ {A = ℕ} 0 1 = cc in absurd (omega arith)
+
+one-taken : (taken input : List ℕ) (i b : ℕ) → nextAt input i ≡ Byte b → taken ++ take i input ++ b ∷ [] ≡ taken ++ take (i + 1) input
+one-taken taken input i b e =
+    let n = next-byte input i b e in
+    append-assoc taken (take i input) (b ∷ []) ∙ ap (λ (l : List ℕ). taken ++ l) (sym (rw (add-one, take-suc input i 0 (n .0), n .1)))
+
+one-written : (given output : List ℕ) (o b : ℕ) → ltb o (length output) ≡ true → given ++ take o output ++ b ∷ [] ≡ given ++ take (o + 1) (set output o b)
+one-written given output o b e =
+    append-assoc given (take o output) (b ∷ []) ∙ ap (λ (l : List ℕ). given ++ l) (sym (rw (add-one, take-suc-set output o b (ltb-true o (length output) e))))
+
+-- ---- a run goes from moment to moment
+
+module _ (y : Systems) (m : List ℤ) (taken given input : List ℕ) where
+  -- behind i bytes taken of this call's input, and o digits written into its output
+  abbrev pub At : State → ℕ → List ℕ → ℕ → Type 0
+  At s i out o = Reached y m (taken ++ take i input) (given ++ take o out) s
+
+  abbrev pub AtEnd : Ran → Type 0
+  AtEnd r = During (Reached y m) taken given input r
+
+  after-reaches : (more : State → ℕ → List ℕ → ℕ → Ran) → ((s : State) (i : ℕ) (out : List ℕ) (o : ℕ) → At s i out o → AtEnd (more s i out o)) →
+      (s : State) (i : ℕ) (out : List ℕ) (o : ℕ) → At s i out o → (k : Kind) → moveAt y input s i out o .kind ≡ k →
+      AtEnd (after more k (moveAt y input s i out o .state) i out o)
+  after-reaches more rest s i out o r Load e =
+      let did = step-did y s (nextAt input i) (ltb o (length out)) e in
+      rest (moveAt y input s i out o .state) (i + 1) out o (record {
+        absorbed = r .absorbed;
+        moment = loaded (r .moment) (nextAt input i) (ltb o (length out)) e;
+        all-taken =
+            ap (λ (t : State). r .absorbed ++ held (t .held)) (did .becomes) ∙
+            ap (λ (l : List ℕ). l ++ did .byte ∷ []) (sym (append-nil (r .absorbed)) ∙ ap (λ (h : Held). r .absorbed ++ held h) (sym (did .free)) ∙ r .all-taken) ∙
+            one-taken taken input i (did .byte) (did .is-next);
+      })
+  after-reaches more rest s i out o r (Give b) e =
+      let did = step-did y s (nextAt input i) (ltb o (length out)) e in
+      rest (moveAt y input s i out o .state) i (set out o b) (o + 1) (record {
+        absorbed = r .absorbed;
+        moment = subst (λ (l : List ℕ). Moment y m (r .absorbed) l (moveAt y input s i out o .state)) (one-written given out o b (did .has-room))
+            (gave (r .moment) (nextAt input i) (ltb o (length out)) b e);
+        all-taken = ap (λ (t : State). r .absorbed ++ held (t .held)) (did .becomes) ∙ r .all-taken;
+      })
+  after-reaches more rest s i out o r Absorb e =
+      let did = step-did y s (nextAt input i) (ltb o (length out)) e in
+      rest (moveAt y input s i out o .state) i out o (record {
+        absorbed = r .absorbed ++ did .held ∷ [];
+        moment = took-in (r .moment) (nextAt input i) (ltb o (length out)) (did .held) (did .holds) e;
+        all-taken =
+            ap (λ (t : State). r .absorbed ++ did .held ∷ [] ++ held (t .held)) (did .becomes) ∙ append-nil (r .absorbed ++ did .held ∷ []) ∙
+            ap (λ (h : Held). r .absorbed ++ held h) (sym (did .holds)) ∙ r .all-taken;
+      })
+  after-reaches more rest s i out o r (Halt stop) e = subst (λ (t : State). At t i out o) (sym (step-did y s (nextAt input i) (ltb o (length out)) e .stays)) r
+
+  pub run-reaches : (k : ℕ) (s : State) (i : ℕ) (out : List ℕ) (o : ℕ) → At s i out o → AtEnd (runBy y input k s i out o)
+  unfolding runBy
+  run-reaches zero s i out o r = r
+  run-reaches (suc k) s i out o r = after-reaches (runBy y input k) (run-reaches k) s i out o r (moveAt y input s i out o .kind) refl

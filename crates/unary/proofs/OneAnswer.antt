@@ -1,0 +1,32 @@
+-- "That no second answer fits is itself proved": whatever two answers keep the promise of `open`, of `state_kept` or of `run`, they are the same; of a run the bytes
+-- of the output, too. Each promise is an equation with one value, which both answers then are. And no two of document 01's sentences on opening hold of one matrix.
+use mathlib.Core.Path.{_≡_, sym, _∙_}
+use mathlib.Core.Bool.{Bool}
+use mathlib.Core.List.{List}
+use Prim.Native.Nat.{ℕ}
+use lib.IntN.{ℤ}
+use Rattle.digits.specs.declared.System.{System}
+use Rattle.unary.specs.declared.State.{State}
+use Rattle.unary.specs.declared.Start.{Start}
+use Rattle.unary.specs.declared.Opening.{Opening}
+use Rattle.unary.specs.declared.Answer.{Answer}
+use Rattle.unary.specs.State.{state?, openOf, OpeningCase}
+use Rattle.unary.specs.Run.{runOf}
+use Rattle.unary.proofs.Keeps.{opens}
+
+pub one-opening : (m : List ℤ) (r r′ : Start) → r ≡ openOf m → r′ ≡ openOf m → r ≡ r′
+one-opening m r r′ p q = p ∙ sym q
+
+pub one-opening-sentence : (m : List ℤ) (v v′ : Opening) → OpeningCase m v → OpeningCase m v′ → v ≡ v′
+one-opening-sentence m v v′ p q = sym (opens m v .1 p) ∙ opens m v′ .1 q
+
+pub one-judgement : (n : ℕ) (s : State) (r r′ : Bool) → r ≡ state? n s → r′ ≡ state? n s → r ≡ r′
+one-judgement n s r r′ p q = p ∙ sym q
+
+-- the promise of `run`: the answer, and the output afterwards
+abbrev pub RunPromise : System → System → State → List ℕ → List ℕ → Answer → List ℕ → Type 0
+RunPromise a b s inp out r new = (r ≡ runOf a b s inp out .answer) × (new ≡ runOf a b s inp out .output)
+
+pub one-run : (a b : System) (s : State) (inp out : List ℕ) (r r′ : Answer) (new new′ : List ℕ) →
+    RunPromise a b s inp out r new → RunPromise a b s inp out r′ new′ → (r ≡ r′) × (new ≡ new′)
+one-run a b s inp out r r′ new new′ p q = (p .0 ∙ sym (q .0), p .1 ∙ sym (q .1))

@@ -1,0 +1,44 @@
+-- `unary::step` meets its contract, by the two cases of what is held.
+use borrow.Author.Needs.{needs}
+use mathlib.Core.Path.{_≡_, sym, ap, subst, _∙_}
+use Prim.Native.Nat.{ℕ, _<_}
+use native.Mathlib.Omega.{arith}
+use denote.Ref.{now}
+use Rattle.unary.specs.declared.Held.the-variants.{Digit}
+use Rattle.unary.specs.declared.State.{State}
+use Rattle.unary.specs.State.{HeldDigit}
+use Rattle.unary.specs.Step.{Systems, stepBy, stepOf}
+use Rattle.unary.specs.Ready.{lent, Turn, Ready}
+use Rattle.unary.proofs.step.Statement.{statement}
+use Rattle.unary.proofs.step.Tie as tie
+
+-- the held digit is one of the input system, and a turn can be made with it
+turn : {y : Systems} {s : State} {h : ℕ} → Ready y s → s .held ≡ Digit h → Turn (y .in-rows) s h
+turn {y} {s} {h} r e =
+    let below : h < y .ins = subst (HeldDigit (y .ins)) e (r .state .held-digit) in
+    record {
+      place = omega (arith, r .input .whole, r .input .few);
+      digit = r .input .digits h below;
+      movable = record { above = r .state .above; in-range = r .state .in-range };
+    }
+
+emit-requires : tie.Need-emit-requires
+emit-requires c κs =
+    let s = c .before .before .before in
+    let r = s .pre in
+    (turn r (c .before .held .given .1), r .output)
+
+returns : tie.Need-returns
+unfolding stepOf
+returns c =
+    let a = c .before .before .before .args in
+    c .load .ensures ∙ sym (ap (stepBy (lent (a .ins) (now (a .fw)) (a .outs) (now (a .gu))) (a .s) (a .next) (a .room)) (c .before .enum-told .given .1))
+
+returns-2 : tie.Need-returns-2
+unfolding stepOf
+returns-2 c =
+    let a = c .before .before .before .before .args in
+    c .emit .ensures ∙ sym (ap (stepBy (lent (a .ins) (now (a .fw)) (a .outs) (now (a .gu))) (a .s) (a .next) (a .room)) (c .before .before .held .given .1))
+
+pub step-spec : {M : Type 1} → statement M
+step-spec = tie.close (tie.spec (λ c. search needs) (λ c κs. search needs) (λ c. search needs) emit-requires returns returns-2)
