@@ -182,10 +182,14 @@ refuses-exactly file b number section = (
   λ r. ap (λ (a : Reading). a .verdict) (refuses-read file number section r),
 )
 
+-- "A refused reading .. hands back its number (reading also the section), no job"
+pub refused-no-job : (file : List ℕ) → Bytes file → (number section : ℕ) → readOf file .verdict ≡ Refused number section → readOf file ≡ refused number section
+refused-no-job file b number section e = refuses-read file number section (refuses-exactly file b number section .0 e)
+
 -- two contents with one answer and one word are the same
-same : (file : List ℕ) {c d : Contents} → ReadsAs file c → ReadsAs file d → c ≡ d
+pub one-contents : (file : List ℕ) {c d : Contents} → ReadsAs file c → ReadsAs file d → c ≡ d
 unfolding readingOf
-same file {c} {d} p q = λ i. record { input = inputs i; output = outputs i; matrix = matrices i; word = words i }
+one-contents file {c} {d} p q = λ i. record { input = inputs i; output = outputs i; matrix = matrices i; word = words i }
   where
     e : readingOf c ≡ readingOf d
     e = sym (p .answer) ∙ q .answer
@@ -207,6 +211,6 @@ unfolding readingOf
 reads-exactly file b c = (
   λ r. let w = subst (Says file) (ap (λ (a : Reading). a .verdict) (r .answer)) (read-says file b) in
       let there : ReadsAs file (w .0) = subst (λ (f : List ℕ). ReadsAs f (w .0)) (sym (w .2)) (layout-reads (w .0) (w .1)) in
-      subst (λ (d : Contents). Rules d × (file ≡ layoutOf d)) (same file there r) (w .1, w .2),
+      subst (λ (d : Contents). Rules d × (file ≡ layoutOf d)) (one-contents file there r) (w .1, w .2),
   λ k. subst (λ (f : List ℕ). ReadsAs f c) (sym (k .1)) (layout-reads c (k .0)),
 )
