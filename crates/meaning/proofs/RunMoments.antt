@@ -14,6 +14,7 @@ use lib.Dec.{ltb}
 use lib.ListN.{length, getD, take, set}
 use lib.Seq.{take-suc, take-suc-set}
 use lib.IntN.{ℤ}
+use Rattle.digits.specs.Admitted.{DigitsBelow}
 use Rattle.unary.specs.declared.Held.{Held}
 use Rattle.unary.specs.declared.State.{State}
 use Rattle.unary.specs.declared.Next.the-variants.{Byte, End}
@@ -21,8 +22,10 @@ use Rattle.unary.specs.declared.Kind.{Kind}
 use Rattle.unary.specs.declared.Kind.the-variants.{Load, Give, Absorb, Halt}
 use Rattle.unary.specs.Step.{Systems}
 use Rattle.unary.specs.Run.{Ran, nextAt, moveAt, after, runBy}
+use Rattle.meaning.specs.Steps.{IsStep}
 use Rattle.meaning.specs.Session.{held, Moment, loaded, gave, took-in, During}
 use Rattle.meaning.proofs.Steps.{step-did}
+use Rattle.meaning.proofs.SessionProduct.{moment-sound}
 
 -- a moment, with the bytes taken until then
 pub record Reached (y : Systems) (m : List ℤ) (taken given : List ℕ) (s : State) : Type 0 where
@@ -51,7 +54,7 @@ one-written given output o b e =
 
 -- ---- a run goes from moment to moment
 
-module _ (y : Systems) (m : List ℤ) (taken given input : List ℕ) where
+module _ (y : Systems) (m : List ℤ) (inputs : DigitsBelow (y .in-rows) (y .ins)) (outputs : DigitsBelow (y .out-rows) (y .outs)) (taken given input : List ℕ) where
   -- behind i bytes taken of this call's input, and o digits written into its output
   abbrev pub At : State → ℕ → List ℕ → ℕ → Type 0
   At s i out o = Reached y m (taken ++ take i input) (given ++ take o out) s
@@ -59,37 +62,44 @@ module _ (y : Systems) (m : List ℤ) (taken given input : List ℕ) where
   abbrev pub AtEnd : Ran → Type 0
   AtEnd r = During (Reached y m) taken given input r
 
+  -- the step that is made there, by the rules
+  at-step : {s : State} (i : ℕ) (out : List ℕ) (o : ℕ) → At s i out o → {k : Kind} → moveAt y input s i out o .kind ≡ k →
+      IsStep y s (nextAt input i) (ltb o (length out)) k (moveAt y input s i out o .state)
+  at-step i out o r e = step-did inputs outputs (moment-sound inputs outputs (r .moment)) (nextAt input i) (ltb o (length out)) e
+
   after-reaches : (more : State → ℕ → List ℕ → ℕ → Ran) → ((s : State) (i : ℕ) (out : List ℕ) (o : ℕ) → At s i out o → AtEnd (more s i out o)) →
       (s : State) (i : ℕ) (out : List ℕ) (o : ℕ) → At s i out o → (k : Kind) → moveAt y input s i out o .kind ≡ k →
       AtEnd (after more k (moveAt y input s i out o .state) i out o)
   after-reaches more rest s i out o r Load e =
-      let did = step-did y s (nextAt input i) (ltb o (length out)) e in
+      let did = at-step i out o r e in
+      let l = did .2 in
       rest (moveAt y input s i out o .state) (i + 1) out o (record {
         absorbed = r .absorbed;
-        moment = loaded (r .moment) (nextAt input i) (ltb o (length out)) e;
+        moment = loaded (r .moment) (did .0) l;
         all-taken =
-            ap (λ (t : State). r .absorbed ++ held (t .held)) (did .becomes) ∙
-            ap (λ (l : List ℕ). l ++ did .byte ∷ []) (sym (append-nil (r .absorbed)) ∙ ap (λ (h : Held). r .absorbed ++ held h) (sym (did .free)) ∙ r .all-taken) ∙
-            one-taken taken input i (did .byte) (did .is-next);
+            ap (λ (t : State). r .absorbed ++ held (t .held)) (l .becomes) ∙
+            ap (λ (d : List ℕ). d ++ did .0 ∷ []) (sym (append-nil (r .absorbed)) ∙ ap (λ (h : Held). r .absorbed ++ held h) (sym (l .free)) ∙ r .all-taken) ∙
+            one-taken taken input i (did .0) (did .1);
       })
   after-reaches more rest s i out o r (Give b) e =
-      let did = step-did y s (nextAt input i) (ltb o (length out)) e in
+      let did = at-step i out o r e in
+      let g = did .1 in
       rest (moveAt y input s i out o .state) i (set out o b) (o + 1) (record {
         absorbed = r .absorbed;
-        moment = subst (λ (l : List ℕ). Moment y m (r .absorbed) l (moveAt y input s i out o .state)) (one-written given out o b (did .has-room))
-            (gave (r .moment) (nextAt input i) (ltb o (length out)) b e);
-        all-taken = ap (λ (t : State). r .absorbed ++ held (t .held)) (did .becomes) ∙ r .all-taken;
+        moment = subst (λ (d : List ℕ). Moment y m (r .absorbed) d (moveAt y input s i out o .state)) (one-written given out o b (did .0)) (gave (r .moment) b g);
+        all-taken = ap (λ (t : State). r .absorbed ++ held (t .held)) (g .becomes) ∙ r .all-taken;
       })
   after-reaches more rest s i out o r Absorb e =
-      let did = step-did y s (nextAt input i) (ltb o (length out)) e in
+      let did = at-step i out o r e in
+      let a = did .0 in
       rest (moveAt y input s i out o .state) i out o (record {
-        absorbed = r .absorbed ++ did .held ∷ [];
-        moment = took-in (r .moment) (nextAt input i) (ltb o (length out)) (did .held) (did .holds) e;
+        absorbed = r .absorbed ++ a ∷ [];
+        moment = took-in (r .moment) a (did .1);
         all-taken =
-            ap (λ (t : State). r .absorbed ++ did .held ∷ [] ++ held (t .held)) (did .becomes) ∙ append-nil (r .absorbed ++ did .held ∷ []) ∙
-            ap (λ (h : Held). r .absorbed ++ held h) (sym (did .holds)) ∙ r .all-taken;
+            ap (λ (t : State). r .absorbed ++ a ∷ [] ++ held (t .held)) (did .1 .becomes) ∙ append-nil (r .absorbed ++ a ∷ []) ∙
+            ap (λ (h : Held). r .absorbed ++ held h) (sym (did .1 .holds)) ∙ r .all-taken;
       })
-  after-reaches more rest s i out o r (Halt stop) e = subst (λ (t : State). At t i out o) (sym (step-did y s (nextAt input i) (ltb o (length out)) e .stays)) r
+  after-reaches more rest s i out o r (Halt stop) e = subst (λ (t : State). At t i out o) (sym (at-step i out o r e)) r
 
   pub run-reaches : (k : ℕ) (s : State) (i : ℕ) (out : List ℕ) (o : ℕ) → At s i out o → AtEnd (runBy y input k s i out o)
   unfolding runBy
