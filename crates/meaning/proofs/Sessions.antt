@@ -21,7 +21,7 @@ use Rattle.meaning.specs.Session.{Session, Moment, held, Numbers, Produc
 use Rattle.meaning.proofs.Steps.{opened-did}
 use Rattle.meaning.proofs.SessionProduct.{moment-scale, moment-product}
 use Rattle.meaning.proofs.SessionNumbers.{moment-numbers}
-use Rattle.meaning.proofs.RunMoments.{Reached, run-reaches}
+use Rattle.meaning.proofs.SessionRuns.{Reached, run-reaches}
 
 module _ {a b : System} {m : List ℤ} where
   -- ---- "on two admitted systems"

@@ -1,33 +1,23 @@
 -- Every state of a session has a matrix of determinant above 0, and holds a digit of the input system or none (`Sound`): opening makes such a state, and each kind of
 -- step keeps it. The argument: X is multiplied with a digit's matrix, whose determinant is above 0, or with its pseudoinverse, so the product's is; and cancelling
 -- keeps the sign.
--- Then, the steps of a run are steps by the rules (`step-is`). What the crate `unary` proves of its step (`step-says`) is document 01's lines read backwards; here the
--- test of inclusion is traded for the sentence that it decides, for which both intervals have to be intervals.
 use mathlib.Core.Path.{_≡_, sym, ap, subst}
-use mathlib.Core.Bool.{Bool}
 use mathlib.Core.List.{List}
 use Prim.Native.Nat.{ℕ, _<_}
 use lib.IntN.{ℤ}
-use Rattle.plane.specs.Plane.{imageOf}
 use Rattle.plane.specs.Scale.{Keeps}
-use Rattle.plane.proofs.Moves.{keeps-multiply, keeps-pseudoinverse, interval-moves}
+use Rattle.plane.proofs.Moves.{keeps-multiply, keeps-pseudoinverse}
 use Rattle.plane.proofs.Cancelling.{cancel-keeps}
-use Rattle.plane.proofs.Inclusion.{included-says}
-use Rattle.digits.specs.System.{transformationOf, intervalOf}
+use Rattle.digits.specs.System.{transformationOf}
 use Rattle.digits.specs.Admitted.{DigitsBelow}
-use Rattle.digits.proofs.First.{first-found}
 use Rattle.unary.specs.declared.Held.the-variants.{Digit}
 use Rattle.unary.specs.declared.State.{State}
-use Rattle.unary.specs.declared.Next.{Next}
-use Rattle.unary.specs.declared.Kind.{Kind}
-use Rattle.unary.specs.declared.Kind.the-variants.{Load, Give, Absorb, Halt}
 use Rattle.unary.specs.declared.Opening.the-variants.{Opens}
 use Rattle.unary.specs.declared.Start.{Start}
 use Rattle.unary.specs.State.{HeldDigit, openOf}
-use Rattle.unary.specs.Step.{Systems, fits?, fittingOf, stepOf}
-use Rattle.unary.proofs.StepSays.{Says, step-says}
+use Rattle.unary.specs.Step.{Systems}
 use Rattle.unary.proofs.Keeps.{opens, hands-out}
-use Rattle.meaning.specs.Steps.{Opened, Loading, givenOut, Giving, takenIn, Absorbing, IsStep}
+use Rattle.meaning.specs.Steps.{Opened, Loading, givenOut, Giving, takenIn, Absorbing}
 
 pub record Sound (y : Systems) (s : State) : Type 0 where
   pub keeps : Keeps (s .matrix)
@@ -68,32 +58,3 @@ module _ {y : Systems} (inputs : DigitsBelow (y .in-rows) (y .ins)) (outputs : D
 
   pub absorbing-sound : {a : ℕ} {s t : State} → Sound y s → Absorbing y a s t → Sound y t
   absorbing-sound sound h = subst (Sound y) (sym (h .becomes)) (record { keeps = cancel-keeps (taken-keeps sound h); held-digit = tt })
-
-  -- ---- the steps of a run
-
-  says-is : (s : State) → Sound y s → (next : Next) (room : Bool) (k : Kind) (t : State) → Says y s next room k t → IsStep y s next room k t
-  unfolding fittingOf
-  says-is s sound next room Load t c = (c .byte, c .is-next, record { free = c .free; digit = c .digit; becomes = c .becomes })
-  says-is s sound next room (Give b) t c =
-      let image = imageOf (s .matrix) (intervalOf (y .in-rows) (c .held)) in
-      let found = first-found (fits? image (y .out-rows)) (y .outs) 0 b (c .fits) in
-      let moved = interval-moves (sound .keeps) (inputs (c .held) (held-below sound (c .holds)) .interval) in (
-        c .has-room,
-        record {
-          held = c .held;
-          holds = c .holds;
-          digit = c .digit;
-          includes = included-says moved (outputs b (c .digit) .interval) (found .passes);
-          becomes = c .becomes;
-        },
-      )
-  says-is s sound next room Absorb t c = (c .held, record { holds = c .holds; becomes = c .becomes })
-  says-is s sound next room (Halt e) t c = c .stays
-
-  pub step-is : {s : State} → Sound y s → (next : Next) (room : Bool) → IsStep y s next room (stepOf y s next room .kind) (stepOf y s next room .state)
-  step-is {s} sound next room = says-is s sound next room (stepOf y s next room .kind) (stepOf y s next room .state) (step-says y s next room)
-
-  -- of a step whose kind is known
-  pub step-did : {s : State} → Sound y s → (next : Next) (room : Bool) {k : Kind} → stepOf y s next room .kind ≡ k →
-      IsStep y s next room k (stepOf y s next room .state)
-  step-did {s} sound next room e = subst (λ (k : Kind). IsStep y s next room k (stepOf y s next room .state)) e (step-is sound next room)

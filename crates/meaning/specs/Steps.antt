@@ -2,7 +2,7 @@
 -- system's; G, U the output system's."
 --
 -- The rules leave open what a run decides: it absorbs only where no digit fits, gives out the smallest digit that fits, and stops where a number leaves the range.
--- Whoever chooses otherwise among these steps gets the same meaning. That the steps of a run are among them is the theorem `step-is` (proofs/Steps.antt).
+-- Whoever chooses otherwise among these steps gets the same meaning. That the steps of a run are among them is the theorem `step-is` (proofs/SessionRuns.antt).
 use mathlib.Core.Path.{_≡_}
 use mathlib.Core.Bool.{Bool, true}
 use mathlib.Core.List.{List}

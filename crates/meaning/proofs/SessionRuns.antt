@@ -1,8 +1,9 @@
--- A run goes from moment to moment: if a run starts at a moment of a session, it is at one after every step.
--- The argument: a run is the step, again and again, with i bytes taken and o digits written so far. What stands in `take i input` is taken, and what stands in `take
--- o out` is written; each kind of step moves one byte or one digit over, or none, and makes of the moment before it the moment after it (`after-reaches`). "Absorbed,
--- not taken: the held digit is not yet absorbed": the bytes taken are the absorbed digits and behind them the held one, so a byte that is loaded stands there as held
--- and is absorbed later.
+-- A run goes from moment to moment. First, each of its steps is a step by the rules (`step-is`): what the crate `unary` proves of its step (`step-says`) is document
+-- 01's lines read backwards; here the test of inclusion is traded for the sentence that it decides, for which both intervals have to be intervals.
+-- Then, if a run starts at a moment of a session, it is at one after every step (`run-reaches`). The argument: a run is the step, again and again, with i bytes taken
+-- and o digits written so far. What stands in `take i input` is taken, and what stands in `take o out` is written; each kind of step moves one byte or one digit over,
+-- or none, and makes of the moment before it the moment after it (`after-reaches`). "Absorbed, not taken: the held digit is not yet absorbed": the bytes taken are the
+-- absorbed digits and behind them the held one, so a byte that is loaded stands there as held and is absorbed later.
 use mathlib.Core.Path.{_≡_, refl, sym, _∙_, ap, subst}
 use mathlib.Core.Bool.{Bool, true, false, cond}
 use mathlib.Core.List.{List, [], _∷_, _++_, append-nil, append-assoc}
@@ -14,26 +15,63 @@ use lib.Dec.{ltb}
 use lib.ListN.{length, getD, take, set}
 use lib.Seq.{take-suc, take-suc-set}
 use lib.IntN.{ℤ}
+use Rattle.plane.specs.Plane.{imageOf}
+use Rattle.plane.proofs.Moves.{interval-moves}
+use Rattle.plane.proofs.Inclusion.{included-says}
+use Rattle.digits.specs.System.{intervalOf}
 use Rattle.digits.specs.Admitted.{DigitsBelow}
+use Rattle.digits.proofs.First.{first-found}
 use Rattle.unary.specs.declared.Held.{Held}
 use Rattle.unary.specs.declared.State.{State}
+use Rattle.unary.specs.declared.Next.{Next}
 use Rattle.unary.specs.declared.Next.the-variants.{Byte, End}
 use Rattle.unary.specs.declared.Kind.{Kind}
 use Rattle.unary.specs.declared.Kind.the-variants.{Load, Give, Absorb, Halt}
-use Rattle.unary.specs.Step.{Systems}
+use Rattle.unary.specs.Step.{Systems, fits?, fittingOf, stepOf}
 use Rattle.unary.specs.Run.{Ran, nextAt, moveAt, after, runBy}
+use Rattle.unary.proofs.StepSays.{Says, step-says}
 use Rattle.meaning.specs.Steps.{IsStep}
 use Rattle.meaning.specs.Session.{held, Moment, loaded, gave, took-in, During}
-use Rattle.meaning.proofs.Steps.{step-did}
+use Rattle.meaning.proofs.Steps.{Sound, held-below}
 use Rattle.meaning.proofs.SessionProduct.{moment-sound}
+
+-- ---- the steps of a run are steps by the rules
+
+module _ {y : Systems} (inputs : DigitsBelow (y .in-rows) (y .ins)) (outputs : DigitsBelow (y .out-rows) (y .outs)) where
+  says-is : (s : State) → Sound y s → (next : Next) (room : Bool) (k : Kind) (t : State) → Says y s next room k t → IsStep y s next room k t
+  unfolding fittingOf
+  says-is s sound next room Load t c = (c .byte, c .is-next, record { free = c .free; digit = c .digit; becomes = c .becomes })
+  says-is s sound next room (Give b) t c =
+      let image = imageOf (s .matrix) (intervalOf (y .in-rows) (c .held)) in
+      let found = first-found (fits? image (y .out-rows)) (y .outs) 0 b (c .fits) in
+      let moved = interval-moves (sound .keeps) (inputs (c .held) (held-below sound (c .holds)) .interval) in (
+        c .has-room,
+        record {
+          held = c .held;
+          holds = c .holds;
+          digit = c .digit;
+          includes = included-says moved (outputs b (c .digit) .interval) (found .passes);
+          becomes = c .becomes;
+        },
+      )
+  says-is s sound next room Absorb t c = (c .held, record { holds = c .holds; becomes = c .becomes })
+  says-is s sound next room (Halt e) t c = c .stays
+
+  pub step-is : {s : State} → Sound y s → (next : Next) (room : Bool) → IsStep y s next room (stepOf y s next room .kind) (stepOf y s next room .state)
+  step-is {s} sound next room = says-is s sound next room (stepOf y s next room .kind) (stepOf y s next room .state) (step-says y s next room)
+
+  -- of a step whose kind is known
+  pub step-did : {s : State} → Sound y s → (next : Next) (room : Bool) {k : Kind} → stepOf y s next room .kind ≡ k →
+      IsStep y s next room k (stepOf y s next room .state)
+  step-did {s} sound next room e = subst (λ (k : Kind). IsStep y s next room k (stepOf y s next room .state)) e (step-is sound next room)
+
+-- ---- one more byte taken, one more digit written
 
 -- a moment, with the bytes taken until then
 pub record Reached (y : Systems) (m : List ℤ) (taken given : List ℕ) (s : State) : Type 0 where
   pub absorbed : List ℕ
   pub moment : Moment y m absorbed given s
   pub all-taken : absorbed ++ held (s .held) ≡ taken
-
--- ---- one more byte taken, one more digit written
 
 -- the byte that a step found next
 next-byte : (input : List ℕ) (i b : ℕ) → nextAt input i ≡ Byte b → (i < length input) × (getD input i 0 ≡ b)
