@@ -65,13 +65,13 @@ module _ {y : Systems} (inputs : DigitsBelow (y .in-rows) (y .ins)) (outputs : D
       IsStep y s next room k (stepOf y s next room .state)
   step-did {s} sound next room e = subst (λ (k : Kind). IsStep y s next room k (stepOf y s next room .state)) e (step-is sound next room)
 
--- ---- one more byte taken, one more digit written
-
 -- a moment, with the bytes taken until then
 pub record Reached (y : Systems) (m : List ℤ) (taken given : List ℕ) (s : State) : Type 0 where
   pub absorbed : List ℕ
   pub moment : Moment y m absorbed given s
   pub all-taken : absorbed ++ held (s .held) ≡ taken
+
+-- ---- one more byte taken, one more digit written
 
 -- the byte that a step found next
 next-byte : (input : List ℕ) (i b : ℕ) → nextAt input i ≡ Byte b → (i < length input) × (getD input i 0 ≡ b)
