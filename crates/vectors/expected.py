@@ -183,7 +183,7 @@ def admitted(label, s):
 
 
 def runs():
-    case('B to B', b, b, opened(1, 0, 0, 1), [1], 4)
+    case('B to B', b, b, opened(1, 0, 0, 1), [1], 8)
     case('B to D', b, d, opened(5, -2, 1, 3), [0, 7, 3, 1, 6, 2], 8)
     case('D to B', d, b, opened(-7, 2, -3, -1), [3, 3, 1, 0, 2, 1], 8)
     case('R to B', r, b, opened(1, 0, 0, 1000), [2, 2, 3, 2, 3, 3], 8)
@@ -234,22 +234,14 @@ def places(label, s):
 
 
 def refusals():
-    places('no digit', counted(r, 0))
-    places('17 digits', counted(r, 17))
-    places('count of 64 ones', counted(r, 2**64 - 1))
-    places('16 digits of 0', counted(r, 16))
-    places('F with 101', put(r, 8, 101))
-    places('W with -101', put(r, 28, -101))
-    places('W with -32768', put(r, 28, -32768))
-    places('det F 0', put(r, 11, 0))
-    places('det F -1', put(r, 11, -1))
-    places('det W 0', put(r, 6, 0))
-    places('det W 1', put(r, 6, -1))
+    for label, n in (('no digit', 0), ('17 digits', 17), ('count of 64 ones', 2**64 - 1), ('16 digits of 0', 16)):
+        places(label, counted(r, n))
+    for label, p, v in (('F with 101', 8, 101), ('W with -101', 28, -101), ('W with -32768', 28, -32768), ('det F 0', 11, 0), ('det F -1', 11, -1),
+                        ('det W 0', 6, 0), ('det W 1', 6, -1)):
+        places(label, put(r, p, v))
     places('F of 2 0 0 2', put(d, 8, 2))
-    places('left end 0 2', put(r, 5, 2))
-    places('right end 2 0', put(r, 14, 2))
-    places('three digits', counted(r, 3))
-    places('one digit', counted(r, 1))
+    for label, s in (('left end 0 2', put(r, 5, 2)), ('right end 2 0', put(r, 14, 2)), ('three digits', counted(r, 3)), ('one digit', counted(r, 1))):
+        places(label, s)
     seven, eight, bad = put(r, 11, 0), put(r, 6, 0), bare(2, 0, 0, 2)
     admitted('row 0 breaks 9, row 1 breaks 6', put(put(r, 5, 2), 8, 101))
     admitted('row 1 breaks 6 and 7', put(put(r, 8, 101), 11, 0))
@@ -267,9 +259,8 @@ def states():
     def state(label, s):
         case_r(label, s, [0, 0, 1], 4)
     state('not cancelled', bare(2, 4, 0, 2))
-    state('det 0', bare(1, 1, 1, 1))
-    state('det -3', bare(1, 2, 2, 1))
-    state('all 0', bare(0, 0, 0, 0))
+    for label, m in (('det 0', [1, 1, 1, 1]), ('det -3', [1, 2, 2, 1]), ('all 0', [0, 0, 0, 0])):
+        state(label, bare(*m))
     for h in (3, 4, 255):
         state(f'held {h}', ([2, 1, 1, 2], h))
     state('largest i64', bare(2**63 - 1, 0, 0, 1))

@@ -33,52 +33,21 @@ pub fn case_r(label: &[u8], s: State, word: &[u8], output: &mut [u8]) -> State {
     )
 }
 
+// The same from an opened session, with room for eight digits.
+fn fresh(label: &[u8], inputs: System, outputs: System, m: [i64; 4], word: &[u8]) {
+    let mut output = [9u8; 8];
+    case(label, inputs, outputs, states::opened(m), word, &mut output);
+}
+
 pub fn built_in() {
-    let mut a = [9u8; 4];
-    case(
-        b"B to B:",
-        digits::system_b(),
-        digits::system_b(),
-        states::opened([1, 0, 0, 1]),
-        &[1],
-        &mut a,
-    );
-    let mut b = [9u8; 8];
-    case(
-        b"B to D:",
-        digits::system_b(),
-        digits::system_d(),
-        states::opened([5, -2, 1, 3]),
-        &[0, 7, 3, 1, 6, 2],
-        &mut b,
-    );
-    let mut c = [9u8; 8];
-    case(
-        b"D to B:",
-        digits::system_d(),
-        digits::system_b(),
-        states::opened([-7, 2, -3, -1]),
-        &[3, 3, 1, 0, 2, 1],
-        &mut c,
-    );
-    let mut d = [9u8; 8];
-    case(
-        b"R to B:",
-        digits::system_r(),
-        digits::system_b(),
-        states::opened([1, 0, 0, 1000]),
-        &[2, 2, 3, 2, 3, 3],
-        &mut d,
-    );
-    let mut e = [9u8; 8];
-    case(
-        b"D to R:",
-        digits::system_d(),
-        digits::system_r(),
-        states::opened([1, 2, -1, 3]),
-        &[1, 2, 2, 0],
-        &mut e,
-    );
+    let r = digits::system_r();
+    let b = digits::system_b();
+    let d = digits::system_d();
+    fresh(b"B to B:", b, b, [1, 0, 0, 1], &[1]);
+    fresh(b"B to D:", b, d, [5, -2, 1, 3], &[0, 7, 3, 1, 6, 2]);
+    fresh(b"D to B:", d, b, [-7, 2, -3, -1], &[3, 3, 1, 0, 2, 1]);
+    fresh(b"R to B:", r, b, [1, 0, 0, 1000], &[2, 2, 3, 2, 3, 3]);
+    fresh(b"D to R:", d, r, [1, 2, -1, 3], &[1, 2, 2, 0]);
 }
 
 // The word 2 0 2 0 .. of D, which names 1/3.
