@@ -217,9 +217,9 @@ def sessions():
     s = case_r('input 0', s, [0], 4)
     s = case_r('input 0 1 4 2', s, [0, 1, 4, 2], 4)
     case_r('behind the byte 4', s, [2, 3, 2], 4)
-    case_r('again', case_r('end 0', job, [0], 4), [], 4)
+    case_r('again', case_r('end 0', job, [0], 4), [], 2)
     case_r('again', case_r('end 20', job, [0, 0, 1], 2), [], 0)
-    case_r('again', case_r('end 21', job, [0, 9, 1], 4), [9, 1], 3)
+    case_r('again', case_r('end 21', job, [0, 9, 1], 4), [9, 1], 2)
     case('again', d, r, case('end 22', d, r, bare(500000001, 0, 0, 1), [3, 1], 2), [1], 2)
     # Every cut must print the line of the whole word.
     out = [9] * 12

@@ -16,11 +16,17 @@ fn main() {
     sessions::more_room();
     sessions::more_input();
     sessions::again();
+    sessions::again_with_input();
     sessions::cuts();
-    refusals::systems();
-    refusals::order();
+    refusals::counts();
+    refusals::numbers();
+    refusals::determinants();
+    refusals::terms_and_gaps();
+    refusals::rows_in_order();
+    refusals::places_in_order();
     refusals::states();
     refusals::range();
+    refusals::reached();
     refusals::given();
     refusals::rubbish();
 }

@@ -38,9 +38,8 @@ fn system(label: &[u8], s: System) {
     );
 }
 
-pub fn systems() {
+pub fn counts() {
     let r = digits::system_r();
-    let d = digits::system_d();
     system(b"no digit", systems::counted(r, 0));
     system(b"17 digits", systems::counted(r, 17));
     system(
@@ -48,25 +47,35 @@ pub fn systems() {
         systems::counted(r, 18446744073709551615),
     );
     system(b"16 digits of 0", systems::counted(r, 16));
+}
+
+pub fn numbers() {
+    let r = digits::system_r();
     system(b"F with 101", systems::with(r, 8, 101));
     system(b"W with -101", systems::with(r, 28, -101));
     system(b"W with -32768", systems::with(r, 28, -32768));
+}
+
+pub fn determinants() {
+    let r = digits::system_r();
     system(b"det F 0", systems::with(r, 11, 0));
     system(b"det F -1", systems::with(r, 11, -1));
     system(b"det W 0", systems::with(r, 6, 0));
     system(b"det W 1", systems::with(r, 6, -1));
-    system(b"F of 2 0 0 2", systems::with(d, 8, 2));
+}
+
+pub fn terms_and_gaps() {
+    let r = digits::system_r();
+    system(b"F of 2 0 0 2", systems::with(digits::system_d(), 8, 2));
     system(b"left end 0 2", systems::with(r, 5, 2));
     system(b"right end 2 0", systems::with(r, 14, 2));
     system(b"three digits", systems::counted(r, 3));
     system(b"one digit", systems::counted(r, 1));
 }
 
-// The first rule that is broken decides: row by row, the input system before the output system, both before the state.
-pub fn order() {
+// The first rule that is broken decides: row by row, and the gap last.
+pub fn rows_in_order() {
     let r = digits::system_r();
-    let seven = systems::with(r, 11, 0);
-    let eight = systems::with(r, 6, 0);
     admitted(
         b"row 0 breaks 9, row 1 breaks 6",
         systems::with(systems::with(r, 5, 2), 8, 101),
@@ -75,7 +84,10 @@ pub fn order() {
         b"row 1 breaks 6 and 7",
         systems::with(systems::with(r, 8, 101), 11, 0),
     );
-    admitted(b"row 1 breaks 7 and 8", systems::with(seven, 14, 0));
+    admitted(
+        b"row 1 breaks 7 and 8",
+        systems::with(systems::with(r, 11, 0), 14, 0),
+    );
     admitted(
         b"row 2 breaks 7, and a gap",
         systems::with(systems::counted(r, 3), 19, 0),
@@ -84,6 +96,13 @@ pub fn order() {
         b"row 3 is not there, and a gap",
         systems::with(systems::counted(r, 3), 27, 0),
     );
+}
+
+// The input system before the output system, and both before the state.
+pub fn places_in_order() {
+    let r = digits::system_r();
+    let seven = systems::with(r, 11, 0);
+    let eight = systems::with(r, 6, 0);
     let bad = states::bare([2, 0, 0, 2]);
     let mut a = [9u8; 2];
     runs::case(b"7, 8 and 12:", seven, eight, bad, &[4], &mut a);
@@ -155,7 +174,7 @@ pub fn given() {
     );
 }
 
-// Entries of 1,000,000,000 and one more, handed in and reached by a step: D's digit 3 doubles the two entries on the left.
+// Entries of 1,000,000,000 and one more, handed in.
 pub fn range() {
     state(b"1000000000 first:", states::bare([1000000000, 0, 0, 1]));
     state(b"1000000001 first:", states::bare([1000000001, 0, 0, 1]));
@@ -165,6 +184,10 @@ pub fn range() {
     state(b"1000000001 third:", states::bare([1, 0, 1000000001, 1]));
     state(b"1000000000 last:", states::bare([1, 0, 0, 1000000000]));
     state(b"1000000001 last:", states::bare([1, 0, 0, 1000000001]));
+}
+
+// The same, reached by a step: D's digit 3 doubles the two entries on the left.
+pub fn reached() {
     doubled(b"to 1000000000:", [500000000, 0, 0, 1]);
     doubled(b"to 1000000002:", [500000001, 0, 0, 1]);
     doubled(b"to -1000000000:", [-500000000, 0, 0, -1]);

@@ -39,15 +39,18 @@ pub fn more_input() {
 pub fn again() {
     let mut a = [9u8; 4];
     let s = runs::case_r(b"end 0:", states::opened([2, 1, 1, 2]), &[0], &mut a);
-    let mut b = [9u8; 4];
+    let mut b = [9u8; 2];
     runs::case_r(b"again:", s, &[], &mut b);
     let mut c = [9u8; 2];
     let t = runs::case_r(b"end 20:", states::opened([2, 1, 1, 2]), &[0, 0, 1], &mut c);
     let mut none = [9u8; 0];
     runs::case_r(b"again:", t, &[], &mut none);
+}
+
+pub fn again_with_input() {
     let mut d = [9u8; 4];
     let u = runs::case_r(b"end 21:", states::opened([2, 1, 1, 2]), &[0, 9, 1], &mut d);
-    let mut e = [9u8; 3];
+    let mut e = [9u8; 2];
     runs::case_r(b"again:", u, &[9, 1], &mut e);
     let mut f = [9u8; 2];
     let v = runs::case(
