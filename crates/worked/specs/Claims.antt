@@ -1,0 +1,103 @@
+-- What a worked example can claim, and what each claim says. There are five kinds: an interval is included in another; it is not, though both its ends lie there; a
+-- matrix opens, or is refused; a system is admitted, or is refused; a job ends in a stated way. Where document 01 has a sentence for an answer, the claim says that too.
+use mathlib.Core.Path.{_≡_}
+use mathlib.Core.List.{List, [], _∷_}
+use mathlib.Core.Logic.{_⊎_}
+use Prim.Native.Nat.{ℕ}
+use lib.ListN.{length, take, replicate}
+use lib.IntN.{ℤ}
+use Rattle.plane.specs.Plane.{left, right, Interval, Closed}
+use Rattle.plane.specs.Inclusion.{Included}
+use Rattle.digits.specs.Admission.{refusalNumber, admissionOf}
+use Rattle.digits.specs.Admitted.{SystemCase}
+use Rattle.digits.specs.BuiltIn.{systemOf}
+use Rattle.digits.specs.declared.Admission.{Admission}
+use Rattle.unary.specs.declared.Held.{Held}
+use Rattle.unary.specs.declared.Held.the-variants.{Nothing}
+use Rattle.unary.specs.declared.Start.{Start}
+use Rattle.unary.specs.declared.Opening.the-variants.{Opens}
+use Rattle.unary.specs.State.{endNumber, openingNumber, openOf, OpeningCase}
+use Rattle.unary.specs.Run.{Ran, runOf}
+
+-- a job: two systems as tables of rows, a matrix, a word, and the room that is given for the output
+pub record Job : Type 0 where
+  pub input : List (List ℤ)
+  pub output : List (List ℤ)
+  pub matrix : List ℤ
+  pub word : List ℕ
+  pub room : ℕ
+
+-- how it ends: the end's number, the bytes taken, the digits written, and the state
+pub record Ending : Type 0 where
+  pub number : ℕ
+  pub taken : ℕ
+  pub digits : List ℕ
+  pub matrix : List ℤ
+  pub held : Held
+
+-- the system that a table of rows is laid out as, judged
+abbrev pub judgedOf : List (List ℤ) → Admission
+judgedOf rows = admissionOf (systemOf rows .count) (systemOf rows .rows)
+
+-- the run of a job, from the state that its matrix opens as
+abbrev pub ranOf : Job → Ran
+ranOf j = runOf (systemOf (j .input)) (systemOf (j .output)) (openOf (j .matrix) .state) (j .word) (replicate (j .room) 0)
+
+-- ---- what each claim says
+
+-- "I is included in J": every point inside I is inside J
+pub record IsIncluded (i j : List ℤ) : Type 0 where
+  pub interval-i : Interval i
+  pub interval-j : Interval j
+  pub included : Included i j
+
+-- "isn't in J, though both ends lie there"
+pub record EndsOnly (i j : List ℤ) : Type 0 where
+  pub interval-i : Interval i
+  pub interval-j : Interval j
+  pub left-end : Closed j (left i)
+  pub right-end : Closed j (right i)
+  pub not-included : Included i j → ⊥
+
+-- opening m answers this number, 0 or a refusal's, for the reason that document 01 gives; and this matrix, with nothing held
+pub record IsOpened (m : List ℤ) (number : ℕ) (x : List ℤ) : Type 0 where
+  pub answer : openingNumber (openOf m .opening) ≡ number
+  pub reason : OpeningCase m (openOf m .opening)
+  pub matrix : openOf m .state .matrix ≡ x
+  pub held : openOf m .state .held ≡ Nothing
+
+-- the judgement of a system answers this number, 0 or a refusal's, for the reason that document 01 gives
+pub record IsJudged (rows : List (List ℤ)) (number : ℕ) : Type 0 where
+  pub answer : refusalNumber (judgedOf rows) ≡ number
+  pub reason : SystemCase (systemOf rows .count) (systemOf rows .rows) (judgedOf rows)
+
+-- the job's matrix opens, and its run ends so
+pub record IsEnded (j : Job) (e : Ending) : Type 0 where
+  pub opens : openOf (j .matrix) .opening ≡ Opens
+  pub number : endNumber (ranOf j .answer .stop) ≡ e .number
+  pub taken : ranOf j .answer .taken .0 ≡ e .taken
+  pub written : ranOf j .answer .written .0 ≡ length (e .digits)
+  pub digits : take (ranOf j .answer .written .0) (ranOf j .output) ≡ e .digits
+  pub matrix : ranOf j .answer .state .matrix ≡ e .matrix
+  pub held : ranOf j .answer .state .held ≡ e .held
+
+-- ---- a row of the table
+
+pub data Claim : Type 0 where
+  included : List ℤ → List ℤ → Claim
+  ends-only : List ℤ → List ℤ → Claim
+  opening : List ℤ → ℕ → List ℤ → Claim
+  judged : List (List ℤ) → ℕ → Claim
+  ended : Job → Ending → Claim
+
+abbrev pub Says : Claim → Type 0
+Says (included i j) = IsIncluded i j
+Says (ends-only i j) = EndsOnly i j
+Says (opening m number x) = IsOpened m number x
+Says (judged rows number) = IsJudged rows number
+Says (ended j e) = IsEnded j e
+
+-- a row of a table
+abbrev pub Member : Claim → List Claim → Type 0
+Member c [] = ⊥
+Member c (d ∷ ds) = (c ≡ d) ⊎ Member c ds
