@@ -92,3 +92,11 @@ printedBy file j room (Refused number section) = refusedText number section
 
 unfoldable pub printed : List ℕ → List ℕ → List ℕ
 printed file room = printedBy file (readOf file .job) room (readOf file .verdict)
+
+-- what the bytes for the output digits hold afterwards: what the run left there, or what they held
+abbrev pub filledOn : List ℕ → Job → List ℕ → Verdict → List ℕ
+filledOn file j room Reads = runIn file j room .output
+filledOn file j room (Refused number section) = room
+
+unfoldable pub filledBy : List ℕ → List ℕ → List ℕ
+filledBy file room = filledOn file (readOf file .job) room (readOf file .verdict)

@@ -1,26 +1,20 @@
+-- `printed::put_entry` meets its contract: a blank in front of a signed number.
 use borrow.Author.Needs.{needs}
+use mathlib.Core.Path.{ap}
+use native.Mathlib.Omega.{arith}
+use mir.Facts.{toZ-ofZ}
+use Rattle.printed.specs.Text.{signedText}
+use Rattle.printed.proofs.Places.{put-put, put-as}
 use Rattle.printed.proofs.put_entry.Statement.{statement}
 use Rattle.printed.proofs.put_entry.Tie as tie
-use Rattle.printed.proofs.put_entry.Reads as reads
-use Rattle.printed.proofs.put_entry.Lts as lts
-use Rattle.printed.proofs.put.Reads as put-reads
-use Rattle.printed.proofs.put_signed.Reads as put-signed-reads
 
--- src/lib.rt:65:9
-put-signed-requires : tie.Need-put-signed-requires
-put-signed-requires c κs = search needs
-
--- src/lib.rt:66:5
-put-requires : tie.Need-put-requires
-put-requires c κs = search needs
-
--- src/lib.rt:61:1
-same-length : tie.Need-same-length
-same-length c = search needs
-
--- src/lib.rt:61:1
 returns : tie.Need-returns
-returns c = ?
+returns c =
+    let q = c .before .before in
+    let n = q .before .before .before .before in
+    let s = n .before .before .before in
+    let signed = put-as (ap signedText (toZ-ofZ (s .fits .z))) (n .put-signed .ensures .0) in
+    (put-put (s .pre .inside) signed (q .put .ensures), omega (arith, n .put-signed .ensures .1, q .put .ensures .place))
 
 pub put-entry-spec : {M : Type 1} → statement M
-put-entry-spec = tie.close (tie.spec put-signed-requires put-requires same-length returns)
+put-entry-spec = tie.close (tie.spec (λ c κs. search needs) (λ c κs. search needs) (λ c. search needs) returns)

@@ -1,26 +1,15 @@
+-- `printed::put_field` meets its contract: a blank in front of a number.
 use borrow.Author.Needs.{needs}
+use native.Mathlib.Omega.{arith}
+use Rattle.printed.proofs.Places.{put-put}
 use Rattle.printed.proofs.put_field.Statement.{statement}
 use Rattle.printed.proofs.put_field.Tie as tie
-use Rattle.printed.proofs.put_field.Reads as reads
-use Rattle.printed.proofs.put_field.Lts as lts
-use Rattle.printed.proofs.put.Reads as put-reads
-use Rattle.printed.proofs.put_number.Reads as put-number-reads
 
--- src/lib.rt:46:9
-put-number-requires : tie.Need-put-number-requires
-put-number-requires c κs = search needs
-
--- src/lib.rt:47:5
-put-requires : tie.Need-put-requires
-put-requires c κs = search needs
-
--- src/lib.rt:42:1
-same-length : tie.Need-same-length
-same-length c = search needs
-
--- src/lib.rt:42:1
 returns : tie.Need-returns
-returns c = ?
+returns c =
+    let q = c .before .before in
+    let n = q .before .before .before .before in
+    (put-put (n .before .before .before .pre .inside) (n .put-number .ensures .0) (q .put .ensures), omega (arith, n .put-number .ensures .1, q .put .ensures .place))
 
 pub put-field-spec : {M : Type 1} → statement M
-put-field-spec = tie.close (tie.spec put-number-requires put-requires same-length returns)
+put-field-spec = tie.close (tie.spec (λ c κs. search needs) (λ c κs. search needs) (λ c. search needs) returns)

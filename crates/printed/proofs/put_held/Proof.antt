@@ -1,57 +1,34 @@
+-- `printed::put_held` meets its contract: the held digit, or `-`.
 use borrow.Author.Needs.{needs}
+use mathlib.Core.Path.{sym, ap}
+use native.Mathlib.Omega.{arith}
+use Rattle.printed.specs.Text.{heldText}
+use Rattle.printed.proofs.Places.{put-as}
 use Rattle.printed.proofs.put_held.Statement.{statement}
 use Rattle.printed.proofs.put_held.Tie as tie
-use Rattle.printed.proofs.put_held.Reads as reads
-use Rattle.printed.proofs.put_held.Lts as lts
-use Rattle.printed.proofs.put.Reads as put-reads
-use Rattle.printed.proofs.put_number.Reads as put-number-reads
 
--- src/lib.rt:74:30
-enum-told : tie.Need-enum-told
-enum-told c = search needs
-
--- src/lib.rt:74:26
-put-requires : tie.Need-put-requires
-put-requires c κs = search needs
-
--- src/lib.rt:75:21
-enum-known-held : tie.Need-enum-known-held
-enum-known-held c = search needs
-
--- src/lib.rt:75:47
-cast-put-number : tie.Need-cast-put-number
-cast-put-number c = search needs
-
--- src/lib.rt:75:27
-put-number-requires : tie.Need-put-number-requires
-put-number-requires c κs = search needs
-
--- src/lib.rt:69:1
-same-length : tie.Need-same-length
-same-length c = search needs
-
--- src/lib.rt:69:1
 returns : tie.Need-returns
-returns c = ?
+unfolding heldText
+returns c =
+    let q = c .before .before in
+    (put-as (sym (ap heldText (q .before .before .enum-told .given .1))) (q .put .ensures), omega (arith, q .put .ensures .place))
 
--- src/lib.rt:69:1
-same-length-2 : tie.Need-same-length-2
-same-length-2 c = search needs
-
--- src/lib.rt:69:1
 returns-2 : tie.Need-returns-2
-returns-2 c = ?
+unfolding heldText
+returns-2 c =
+    let q = c .before .before in
+    (put-as (sym (ap heldText (q .before .before .before .held .given .1))) (q .put-number .ensures .0), q .put-number .ensures .1)
 
 pub put-held-spec : {M : Type 1} → statement M
 put-held-spec =
     tie.close
     (tie.spec
-    enum-told
-    put-requires
-    enum-known-held
-    cast-put-number
-    put-number-requires
-    same-length
+    (λ c. search needs)
+    (λ c κs. search needs)
+    (λ c. search needs)
+    (λ c. search needs)
+    (λ c κs. search needs)
+    (λ c. search needs)
     returns
-    same-length-2
+    (λ c. search needs)
     returns-2)
