@@ -29,8 +29,15 @@ layout-length c h =
     let w = wordBytes (c .word) in
     let m = matrixBytes (c .matrix) in
     let o = systemBytes (c .output) in
-    omega (arith, length-append (systemBytes (c .input)) (o ++ (m ++ w)), length-append o (m ++ w), length-append m w, system-length (c .input) (h .input),
-    system-length (c .output) (h .output), matrix-length (c .matrix) (h .matrix))
+    omega (
+      arith,
+      length-append (systemBytes (c .input)) (o ++ (m ++ w)),
+      length-append o (m ++ w),
+      length-append m w,
+      system-length (c .input) (h .input),
+      system-length (c .output) (h .output),
+      matrix-length (c .matrix) (h .matrix),
+    )
 
 pub largest : (c : Contents) → Rules c → length (layoutOf c) ≤ 4624
 largest c h = omega (arith, layout-length c h, h .input .admissible .few-digits, h .output .admissible .few-digits, h .word .short)

@@ -37,7 +37,7 @@ leading-length : (j k n : ℕ) → n < 10 ^ k → length (leading j n) ≤ k
 unfolding leading
 leading-length zero k n h = omega arith
 leading-length (suc j) k n h = elim (eq-zero-or-pos n) [
-  inl e ↦ subst (λ (m : ℕ). length (leading (suc j) m) ≤ k) (sym e) (omega arith)
+  | inl e ↦ subst (λ (m : ℕ). length (leading (suc j) m) ≤ k) (sym e) (omega arith)
   | inr p ↦ one-more j k n (λ i. leading-length j i (n / 10)) h p
 ]
 

@@ -13,8 +13,6 @@ use Rattle.printed.proofs.Places.{put-none, put-put, put-as, put-length
 use Rattle.printed.proofs.Lines.{Written, field, so-far, no-field, first-field}
 use Rattle.printed.proofs.put_digits.Statement.{statement}
 use Rattle.printed.proofs.put_digits.Tie as tie
-use Rattle.printed.proofs.put_digits.Reads as reads
-use Rattle.printed.proofs.put_digits.Lts as lts
 
 abbrev Inv-loop : tie.InvT-loop
 Inv-loop out₀ at digits p₀ i₀ out p i = Written digits out₀ p₀ out p i
@@ -78,9 +76,10 @@ returns-2 c =
     let p = l .before .before .before in
     let s = p .before .before .before .before in
     let w = l .loop .inv in
-    let e : l .loop .i ≡ 1 = omega arith in
-    (put-as (first-field (now (s .args .digits)) (l .loop .i) e (w .few)) (put-put (s .pre .inside) (fields l) (n .put-number .ensures .0)),
-    omega (arith, w .near, p .put .ensures .place, n .put-number .ensures .1))
+    let e : l .loop .i ≡ 1 = omega arith in (
+      put-as (first-field (now (s .args .digits)) (l .loop .i) e (w .few)) (put-put (s .pre .inside) (fields l) (n .put-number .ensures .0)),
+      omega (arith, w .near, p .put .ensures .place, n .put-number .ensures .1),
+    )
 
 pub put-digits-spec : {M : Type 1} → statement M
 put-digits-spec =

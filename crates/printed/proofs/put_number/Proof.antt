@@ -12,8 +12,6 @@ use Rattle.printed.proofs.Places.{put-none, put-put, put-as, put-length
 use Rattle.printed.proofs.Decimals.{leading-none, leading-more, tenth, some-digit}
 use Rattle.printed.proofs.put_number.Statement.{statement}
 use Rattle.printed.proofs.put_number.Tie as tie
-use Rattle.printed.proofs.put_number.Reads as reads
-use Rattle.printed.proofs.put_number.Lts as lts
 
 record Left (out₀ : List ℕ) (p₀ rest₀ : ℕ) (out : List ℕ) (p rest : ℕ) : Type 0 where
   k : ℕ
@@ -43,8 +41,8 @@ next {out₀} {out} {out′} {p₀} {rest₀} {p} {rest} {p′} l h q = by (l .k
       done = glyph (rest % 10) ∷ l .done;
       written = put-put (l .inside) (l .written) q;
       digits =
-        l .digits ∙ ap (λ (x : List ℕ). x ++ l .done) (ap (λ (j : ℕ). leading j rest) e ∙ leading-more k rest h) ∙
-        append-assoc (leading k (rest / 10)) (glyph (rest % 10) ∷ []) (l .done);
+          l .digits ∙ ap (λ (x : List ℕ). x ++ l .done) (ap (λ (j : ℕ). leading j rest) e ∙ leading-more k rest h) ∙
+          append-assoc (leading k (rest / 10)) (glyph (rest % 10) ∷ []) (l .done);
       place = omega (arith, l .place, q .place);
       below = tenth k rest (subst (λ (j : ℕ). rest < 10 ^ j) e (l .below));
       room = l .room;

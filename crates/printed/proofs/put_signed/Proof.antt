@@ -37,9 +37,10 @@ returns : tie.Need-returns
 returns c =
     let q = c .before .before in
     let n = q .before .before .before .before .before in
-    let s = n .before .before .before .before in
-    (put-as (below (s .args .z) (simp (toZ-ofZ (s .fits .z)) at (q .before .before .if1 .taken))) (put-put (s .pre .inside) (magnitude n) (q .put .ensures)),
-    omega (arith, n .put-number .ensures .1, q .put .ensures .place))
+    let s = n .before .before .before .before in (
+      put-as (below (s .args .z) (simp (toZ-ofZ (s .fits .z)) at (q .before .before .if1 .taken))) (put-put (s .pre .inside) (magnitude n) (q .put .ensures)),
+      omega (arith, n .put-number .ensures .1, q .put .ensures .place),
+    )
 
 returns-2 : tie.Need-returns-2
 returns-2 c =

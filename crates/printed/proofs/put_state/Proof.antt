@@ -26,10 +26,19 @@ returns c =
     let a = put-put l (put-put l (p .put .ensures) (held .put-held .ensures .0)) (blank .put2 .ensures) in
     let b = put-put l a (put-as (ap (λ z. 32 ∷ signedText z) (back-of (at m 3) (e3 .before .put-entry-arg2 .given))) (e3 .put-entry .ensures .0)) in
     let d = put-put l b (put-as (ap (λ z. 32 ∷ signedText z) (back-of (at m 2) (e2 .before .put-entry-arg4 .given))) (e2 .put-entry2 .ensures .0)) in
-    let e = put-put l d (put-as (ap (λ z. 32 ∷ signedText z) (back-of (at m 1) (e1 .before .put-entry-arg6 .given))) (e1 .put-entry3 .ensures .0)) in
-    (put-put l e (put-as (ap signedText (back-of (at m 0) (e0 .before .put-signed-arg2 .given))) (e0 .put-signed .ensures .0)),
-    omega (arith, p .put .ensures .place, held .put-held .ensures .1, blank .put2 .ensures .place, e3 .put-entry .ensures .1, e2 .put-entry2 .ensures .1,
-    e1 .put-entry3 .ensures .1, e0 .put-signed .ensures .1))
+    let e = put-put l d (put-as (ap (λ z. 32 ∷ signedText z) (back-of (at m 1) (e1 .before .put-entry-arg6 .given))) (e1 .put-entry3 .ensures .0)) in (
+      put-put l e (put-as (ap signedText (back-of (at m 0) (e0 .before .put-signed-arg2 .given))) (e0 .put-signed .ensures .0)),
+      omega (
+        arith,
+        p .put .ensures .place,
+        held .put-held .ensures .1,
+        blank .put2 .ensures .place,
+        e3 .put-entry .ensures .1,
+        e2 .put-entry2 .ensures .1,
+        e1 .put-entry3 .ensures .1,
+        e0 .put-signed .ensures .1,
+      ),
+    )
 
 pub put-state-spec : {M : Type 1} → statement M
 put-state-spec =

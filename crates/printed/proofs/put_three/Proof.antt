@@ -1,30 +1,16 @@
+-- `printed::put_three` meets its contract: three bytes, each in front of the one before.
 use borrow.Author.Needs.{needs}
+use Rattle.printed.proofs.Places.{put-put}
 use Rattle.printed.proofs.put_three.Statement.{statement}
 use Rattle.printed.proofs.put_three.Tie as tie
-use Rattle.printed.proofs.put_three.Reads as reads
-use Rattle.printed.proofs.put_three.Lts as lts
-use Rattle.printed.proofs.put.Reads as put-reads
 
--- src/lib.rt:160:9
-put-requires : tie.Need-put-requires
-put-requires c κs = search needs
-
--- src/lib.rt:161:9
-put-requires-2 : tie.Need-put-requires-2
-put-requires-2 c κs = search needs
-
--- src/lib.rt:162:5
-put-requires-3 : tie.Need-put-requires-3
-put-requires-3 c κs = search needs
-
--- src/lib.rt:156:1
-same-length : tie.Need-same-length
-same-length c = search needs
-
--- src/lib.rt:156:1
 returns : tie.Need-returns
-returns c = ?
+returns c =
+    let x = c .before .before in
+    let y = x .before .before .before .before in
+    let z = y .before .before .before .before in
+    let l = z .before .before .before .pre .inside in
+    put-put l (put-put l (z .put .ensures) (y .put2 .ensures)) (x .put3 .ensures)
 
 pub put-three-spec : {M : Type 1} → statement M
-put-three-spec =
-    tie.close (tie.spec put-requires put-requires-2 put-requires-3 same-length returns)
+put-three-spec = tie.close (tie.spec (λ c κs. search needs) (λ c κs. search needs) (λ c κs. search needs) (λ c. search needs) returns)
