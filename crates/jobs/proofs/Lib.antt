@@ -1,6 +1,7 @@
 -- The job file, as theorems: what each answer of `read` says.
 --   ReadsExactly   a file reads, or is refused by a number in a section, exactly when document 01 says
 --   NeverRefused   what reads is refused by no opening and by no run
+--   Lengths        the largest file; the word lies inside the file
 --   OneAnswer      no second answer fits
 --   Settled        the largest file, and that 4,625 bytes settle every file
 -- and what these stand on:
@@ -17,5 +18,6 @@ pub mod MatrixSays
 pub mod WordSays
 pub mod ReadsExactly
 pub mod NeverRefused
+pub mod Lengths
 pub mod OneAnswer
 pub mod Settled
