@@ -3,7 +3,7 @@
 --   NeverRefused   what reads is refused by no opening and by no run
 --   Lengths        the largest file; the word lies inside the file
 --   OneAnswer      no second answer fits
---   Settled        the largest file, and that 4,625 bytes settle every file
+--   Settled        4,625 bytes settle every file
 -- and what these stand on:
 --   Numbers, Sixteen                    numbers in bytes: what is written is read back, and what is read is written back; which numbers are signed 16-bit numbers
 --   Sections, Ways, Begins              what each section answers, one law for each way it can go; what bytes begin with

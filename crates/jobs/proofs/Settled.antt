@@ -1,20 +1,19 @@
--- "The largest file is 4,624 bytes." So 4,625 bytes settle every file: whatever follows them changes no answer, and the program need read no more.
+-- "The largest file is 4,624 bytes" (proofs/Lengths.antt). And 4,625 bytes settle every file: whatever follows them changes no answer, and the program need read no more.
 -- A word's count and 4,097 bytes more, 4,099 together, tell a word that ends from one that goes on; a matrix section before it has 10 bytes, and a system's at most 258,
 -- each. Where a file has no more bytes than that, it is itself; where it has more, each test of the judgement comes out the same on its first bytes.
 use mathlib.Core.Path.{_≡_, refl, sym, ap, ap₂, _∙_}
 use mathlib.Core.List.{List, [], _∷_}
 use mathlib.Core.Logic.{inl, inr}
-use Prim.Native.Nat.{ℕ, zero, suc, _+_, _*_, _-_, _≤_, _<_}
+use Prim.Native.Nat.{ℕ, zero, suc, _+_, _*_, _-_, _≤_}
 use native.Mathlib.Nat.{sub-zero}
 use native.Mathlib.Decide.{ℕ-discrete}
 use native.Mathlib.Omega.{arith}
-use lib.ListN.{length, take, drop, getD, length-append, length-drop}
+use lib.ListN.{length, take, drop, length-drop}
 use lib.Seq.{take-all, take-nil, length-take-le, getD-take}
 use lib.IntN.{ℤ}
 use Rattle.digits.specs.BuiltIn.{filled}
 use Rattle.digits.specs.declared.System.{System}
 use Rattle.jobs.specs.declared.Reading.{Reading}
-use Rattle.jobs.specs.Layout.{Contents, numbersBytes, systemBytes, matrixBytes, wordBytes, layoutOf, SystemRules, Rules}
 use Rattle.jobs.specs.Reading.{
   countOf,
   numbersAt,
@@ -31,8 +30,6 @@ use Rattle.jobs.specs.Reading.{
   outputRead,
   readOf,
 }
-use Rattle.jobs.proofs.Begins.{numbers-bytes-length}
-use Rattle.jobs.proofs.Sixteen.{rows-length}
 use Rattle.jobs.proofs.Sections.{
   system-none,
   system-many,
@@ -150,16 +147,3 @@ long-settled file long = system-settled file 4625 4367 0 outputRead (omega arith
 
 pub settled : (file : List ℕ) → readOf (take 4625 file) ≡ readOf file
 settled file = elim (le-or-lt (length file) 4625) [ inl short ↦ ap readOf (take-all 4625 file short) | inr long ↦ long-settled file (omega arith) ]
-
--- ---- the largest file
-
-system-bytes : (s : System) → SystemRules s → length (systemBytes s) ≤ 258
-unfolding systemBytes
-system-bytes s r =
-    omega (arith, numbers-bytes-length (take (8 * s .count) (s .rows)), rows-length r, r .admissible .few-digits)
-
-pub largest-file : (c : Contents) → Rules c → length (layoutOf c) ≤ 4624
-unfolding layoutOf matrixBytes wordBytes
-largest-file c r =
-    simp length-append
-    (omega (arith, system-bytes (c .input) (r .input), system-bytes (c .output) (r .output), numbers-bytes-length (c .matrix), r .matrix .four, r .word .short))
