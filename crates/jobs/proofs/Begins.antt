@@ -1,15 +1,16 @@
--- What bytes begin with: a count, or a count and numbers. Both ways: bytes that are long enough begin with what is read from them, and what they begin with is what is read.
-use mathlib.Core.Path.{_≡_, refl, sym, ap, _∙_, subst}
-use mathlib.Core.List.{List, [], _∷_, _++_, append-assoc}
-use Prim.Native.Nat.{ℕ, zero, suc, _+_, _*_, _-_, _≤_}
+-- What bytes begin with: a count, or a count and numbers. Both ways: bytes that are long enough begin with what is read from them, and what they begin with is what is
+-- read.
+use mathlib.Core.Path.{_≡_, refl, sym, ap, _∙_}
+use mathlib.Core.List.{List, [], _∷_, _++_}
+use Prim.Native.Nat.{ℕ, _+_, _*_, _-_, _≤_}
 use native.Mathlib.Omega.{arith}
 use lib.ListN.{length, take, drop, replicate, length-append, length-drop}
 use lib.Seq.{getD-drop, take-at, drop-at, drop-drop}
 use lib.IntN.{ℤ, pos}
 use Rattle.digits.specs.BuiltIn.{filled}
-use Rattle.jobs.specs.Layout.{twoBytes, complement, numbersBytes, Bytes}
+use Rattle.jobs.specs.Layout.{twoBytes, numbersBytes, Bytes}
 use Rattle.jobs.specs.Reading.{countOf, numbersAt}
-use Rattle.jobs.specs.Refuses.{Sixteen, Counted, Section}
+use Rattle.jobs.specs.Refuses.{Counted, Section}
 use Rattle.jobs.proofs.Numbers.{pair-two, two-pair, pair-small, numbers-length, numbers-16, numbers-drop, numbers-read, read-numbers}
 
 pub drop-bytes : {bytes : List ℕ} → Bytes bytes → (q : ℕ) → Bytes (drop q bytes)

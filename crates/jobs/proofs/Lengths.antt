@@ -8,9 +8,9 @@ use lib.IntN.{ℤ}
 use Rattle.digits.specs.declared.System.{System}
 use Rattle.jobs.specs.declared.Verdict.the-variants.{Reads}
 use Rattle.jobs.specs.declared.Reading.{Reading}
-use Rattle.jobs.specs.Layout.{Contents, systemBytes, matrixBytes, wordBytes, layoutOf, numbersBytes, Bytes, SystemRules, MatrixRules, Rules}
+use Rattle.jobs.specs.Layout.{Contents, systemBytes, matrixBytes, wordBytes, layoutOf, Bytes, SystemRules, MatrixRules, Rules}
 use Rattle.jobs.specs.Reading.{readOf}
-use Rattle.jobs.specs.Reads.{bytesOf, wordStart, readingOf, ReadsAs}
+use Rattle.jobs.specs.Reads.{bytesOf, wordStart, readingOf}
 use Rattle.jobs.proofs.Begins.{numbers-bytes-length}
 use Rattle.jobs.proofs.Sixteen.{rows-length}
 use Rattle.jobs.proofs.ReadsExactly.{Says, read-says, layout-reads}

@@ -2,6 +2,7 @@
 --   ReadsExactly   a file reads, or is refused by a number in a section, exactly when document 01 says
 --   NeverRefused   what reads is refused by no opening and by no run
 --   Lengths        the largest file; the word lies inside the file
+--   Settled        4,625 bytes settle every file
 --   OneAnswer      no second answer fits
 --   Settled        4,625 bytes settle every file
 -- and what these stand on:
@@ -19,5 +20,5 @@ pub mod WordSays
 pub mod ReadsExactly
 pub mod NeverRefused
 pub mod Lengths
-pub mod OneAnswer
 pub mod Settled
+pub mod OneAnswer

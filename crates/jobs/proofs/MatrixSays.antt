@@ -5,7 +5,7 @@ use mathlib.Core.Bool.{Bool, true, false, true≢false}
 use mathlib.Core.List.{List, _++_}
 use Prim.Native.Nat.{ℕ, zero, suc}
 use native.Mathlib.Omega.{arith}
-use lib.ListN.{length, drop, length-drop}
+use lib.ListN.{drop, length-drop}
 use lib.IntN.{ℤ, pos}
 use lib.Signed.{ltZ}
 use Rattle.whole.specs.Range.{Within}
@@ -14,7 +14,7 @@ use Rattle.plane.specs.Plane.{determinantOf}
 use Rattle.digits.specs.Admission.{within?}
 use Rattle.digits.proofs.RowSays.{within-says, says-within}
 use Rattle.jobs.specs.Layout.{twoBytes, numbersBytes, matrixBytes, Bytes, MatrixRules}
-use Rattle.jobs.specs.Reading.{countOf, numbersAt, matrixJudged, matrixSection}
+use Rattle.jobs.specs.Reading.{numbersAt, matrixJudged, matrixSection}
 use Rattle.jobs.specs.Refuses.{Section, Counted, BreaksMatrix}
 use Rattle.jobs.specs.declared.MatrixSection.{MatrixSection}
 use Rattle.jobs.proofs.Begins.{counted, section, count-read, section-read}

@@ -3,7 +3,6 @@
 use mathlib.Core.Path.{_≡_, sym, ap, _∙_, subst}
 use mathlib.Core.List.{List}
 use Prim.Native.Nat.{ℕ}
-use Rattle.digits.specs.declared.System.{System}
 use Rattle.digits.specs.declared.Admission.the-variants.{Admitted}
 use Rattle.digits.proofs.AdmittedSays.{admitted-only}
 use Rattle.unary.specs.State.{openOf}
@@ -14,9 +13,9 @@ use Rattle.unary.proofs.Judged.{accepted, run-accepted}
 use Rattle.jobs.specs.declared.Verdict.the-variants.{Reads}
 use Rattle.jobs.specs.declared.Reading.{Reading}
 use Rattle.jobs.specs.declared.Job.{Job}
-use Rattle.jobs.specs.Layout.{Contents, Bytes, SystemRules, Rules}
+use Rattle.jobs.specs.Layout.{Contents, Bytes, Rules}
 use Rattle.jobs.specs.Reading.{readOf}
-use Rattle.jobs.specs.Reads.{readingOf, ReadsAs}
+use Rattle.jobs.specs.Reads.{readingOf}
 use Rattle.jobs.proofs.ReadsExactly.{Says, read-says, layout-reads}
 
 -- opening takes the matrix, and no run of the opened state is refused

@@ -8,11 +8,9 @@ use native.Mathlib.Numerals.{add-one}
 use native.Mathlib.Omega.{arith}
 use borrow.Author.Tests.{lt-ltb, le-ltb, ltb-true, ltb-false}
 use lib.Dec.{ltb, le→leb, leb→le}
-use lib.ListN.{length, getD, set, drop, replicate, length-append}
+use lib.ListN.{length, set, drop, replicate, length-append}
 use lib.Seq.{getD-drop, set-at, append-snoc}
 use lib.IntN.{ℤ, pos, negsuc, _-ℤ_}
-use lib.Signed.{_≤ℤ_}
-use Rattle.whole.specs.Range.{at}
 use Rattle.digits.specs.BuiltIn.{filled}
 use Rattle.jobs.specs.Layout.{twoBytes, complement, numbersBytes, Bytes}
 use Rattle.jobs.specs.Reading.{pairAt, signed, numberAt, numbersAt}

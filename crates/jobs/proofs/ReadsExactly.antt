@@ -7,7 +7,7 @@
 use mathlib.Core.Path.{_≡_, refl, sym, ap, _∙_, subst}
 use mathlib.Core.List.{List, _++_}
 use mathlib.Core.Logic.{_↔_}
-use Prim.Native.Nat.{ℕ, zero, suc, _+_, _≤_}
+use Prim.Native.Nat.{ℕ, zero, suc, _+_}
 use lib.ListN.{length, take, drop}
 use lib.Seq.{drop-drop, take-length}
 use lib.IntN.{ℤ}
@@ -15,23 +15,10 @@ use Rattle.digits.specs.declared.System.{System}
 use Rattle.jobs.specs.declared.Verdict.{Verdict}
 use Rattle.jobs.specs.declared.Verdict.the-variants.{Reads, Refused}
 use Rattle.jobs.specs.declared.Reading.{Reading}
-use Rattle.jobs.specs.declared.Job.{Job}
-use Rattle.jobs.specs.Layout.{Contents, systemBytes, matrixBytes, wordBytes, layoutOf, Bytes, SystemRules, MatrixRules, WordRules, Rules}
-use Rattle.jobs.specs.Reading.{
-  countOf,
-  systemSize,
-  systemSection,
-  matrixSection,
-  wordNumber,
-  refused,
-  judged,
-  wordRead,
-  matrixRead,
-  outputRead,
-  readOf,
-}
+use Rattle.jobs.specs.Layout.{Contents, systemBytes, matrixBytes, wordBytes, layoutOf, Bytes, SystemRules, MatrixRules, Rules}
+use Rattle.jobs.specs.Reading.{countOf, systemSize, systemSection, matrixSection, wordNumber, refused, judged, wordRead, matrixRead, outputRead, readOf}
 use Rattle.jobs.specs.Reads.{bytesOf, wordStart, readingOf, ReadsAs}
-use Rattle.jobs.specs.Refuses.{BreaksSystem, BreaksMatrix, BreaksWord, Refuses}
+use Rattle.jobs.specs.Refuses.{Refuses}
 use Rattle.jobs.proofs.Begins.{drop-bytes}
 use Rattle.jobs.proofs.Ways.{refused-here}
 use Rattle.jobs.proofs.SystemSays.{SystemSays, system-says, system-number, system-not-0, system-read}

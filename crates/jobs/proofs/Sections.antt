@@ -1,10 +1,8 @@
 -- What each section answers, one law for each way it can go: the count is cut off, wrong, the section is cut off, or it is whole. The functions' proofs follow the code
 -- along these laws, and the theorems on what the answers mean use them in both directions.
-use mathlib.Core.Path.{_≡_, refl, sym, ap, _∙_}
-use mathlib.Core.Bool.{Bool, true, false, cond, _&&_}
+use mathlib.Core.Path.{_≡_}
 use mathlib.Core.List.{List}
-use mathlib.Core.Logic.{_⊎_, inl, inr}
-use Prim.Native.Nat.{ℕ, zero, _+_, _*_, _≤_, _<_}
+use Prim.Native.Nat.{ℕ, _+_, _≤_, _<_}
 use native.Mathlib.Omega.{arith}
 use borrow.Author.Tests.{le-leb, lt-leb, eq-eqb, ne-eqb}
 use lib.ListN.{length}
@@ -15,20 +13,7 @@ use Rattle.whole.proofs.Test.{true-lt, false-lt}
 use Rattle.plane.specs.Plane.{determinantOf}
 use Rattle.digits.specs.Admission.{within?}
 use Rattle.digits.proofs.RowSays.{within-says, says-within, false-by}
-use Rattle.jobs.specs.Reading.{
-  countOf,
-  numbersAt,
-  systemOf,
-  systemSize,
-  systemRefused,
-  systemJudged,
-  systemSection,
-  matrixRefused,
-  matrixJudged,
-  matrixSection,
-  wordNumber,
-  noMatrix,
-}
+use Rattle.jobs.specs.Reading.{countOf, numbersAt, systemOf, systemSize, systemRefused, systemJudged, systemSection, matrixRefused, matrixJudged, matrixSection, wordNumber}
 
 module _ (bytes : List ℕ) where
   -- ---- a system

@@ -1,149 +1,135 @@
--- "The largest file is 4,624 bytes" (proofs/Lengths.antt). And 4,625 bytes settle every file: whatever follows them changes no answer, and the program need read no more.
--- A word's count and 4,097 bytes more, 4,099 together, tell a word that ends from one that goes on; a matrix section before it has 10 bytes, and a system's at most 258,
--- each. Where a file has no more bytes than that, it is itself; where it has more, each test of the judgement comes out the same on its first bytes.
+-- 4,625 bytes settle every file: the first 4,625 bytes of a file are answered as the file is. A program that reads no more gives the right answer, however long its
+-- input is.
+--
+-- Two systems take at most 258 bytes each and a matrix 10, so that 4,099 bytes are left for the word: its count, 4,096 bytes, and one more, which is enough to see that
+-- bytes follow. A section that is cut off at 4,625 bytes would be longer than that.
 use mathlib.Core.Path.{_≡_, refl, sym, ap, ap₂, _∙_}
-use mathlib.Core.List.{List, [], _∷_}
+use mathlib.Core.List.{List, _∷_}
 use mathlib.Core.Logic.{inl, inr}
-use Prim.Native.Nat.{ℕ, zero, suc, _+_, _*_, _-_, _≤_}
-use native.Mathlib.Nat.{sub-zero}
-use native.Mathlib.Decide.{ℕ-discrete}
+use Prim.Native.Nat.{ℕ, zero, suc, _+_, _*_, _-_, _≤_, _<_}
 use native.Mathlib.Omega.{arith}
-use lib.ListN.{length, take, drop, length-drop}
-use lib.Seq.{take-all, take-nil, length-take-le, getD-take}
+use lib.ListN.{length, take, drop}
+use lib.Seq.{getD-take, take-all, take-add, drop-at, length-take-le}
 use lib.IntN.{ℤ}
 use Rattle.digits.specs.BuiltIn.{filled}
 use Rattle.digits.specs.declared.System.{System}
+use Rattle.jobs.specs.declared.Verdict.the-variants.{Reads}
 use Rattle.jobs.specs.declared.Reading.{Reading}
-use Rattle.jobs.specs.Reading.{
-  countOf,
-  numbersAt,
-  systemOf,
-  systemSize,
-  systemJudged,
-  systemSection,
-  matrixJudged,
-  matrixSection,
-  wordNumber,
-  judged,
-  wordRead,
-  matrixRead,
-  outputRead,
-  readOf,
-}
-use Rattle.jobs.proofs.Sections.{
-  system-none,
-  system-many,
-  system-whole,
-  matrix-wrong-count,
-  matrix-whole,
-  word-wrong-count,
-  word-bytes-follow,
-}
-use Rattle.jobs.proofs.Ways.{le-or-lt, system-present}
+use Rattle.jobs.specs.Reading.{countOf, signed, numbersAt, systemOf, systemSize, systemJudged, systemSection, matrixJudged, matrixSection, wordNumber, judged, wordRead, matrixRead, outputRead, readOf}
+use Rattle.jobs.proofs.Sections.{system-none, system-many, system-whole, matrix-wrong-count, matrix-whole, word-wrong-count, word-bytes-follow}
+use Rattle.jobs.proofs.Ways.{le-or-lt, SystemWay, system-way, MatrixWay, matrix-way, WordWay, word-way, system-present}
 
--- ---- the first bytes of a list that has more
+-- ---- what is read from the first m bytes
 
-numbers-take : (bytes : List ℕ) (k p n : ℕ) → p + 2 * n ≤ k → numbersAt (take k bytes) p n ≡ numbersAt bytes p n
-unfolding numbersAt
-numbers-take bytes k p zero h = refl
-numbers-take bytes k p (suc n) h = ap₂ _∷_
-    (rw (getD-take k bytes p 0 (omega arith), getD-take k bytes (p + 1) 0 (omega arith)))
-    (numbers-take bytes k (p + 2) n (omega arith))
+module _ (m : ℕ) (bytes : List ℕ) where
+  same-count : 2 ≤ m → countOf (take m bytes) ≡ countOf bytes
+  same-count h = ap₂ (λ a b. a + 256 * b) (getD-take m bytes 0 0 (omega arith)) (getD-take m bytes 1 0 (omega arith))
 
-drop-take : (d k : ℕ) (l : List ℕ) → drop d (take k l) ≡ take (k - d) (drop d l)
-drop-take zero k l = ap (λ (n : ℕ). take n l) (sym (sub-zero k))
-drop-take (suc d) zero l = let e : 0 - suc d ≡ 0 = omega arith in rw e
-drop-take (suc d) (suc k) [] = sym (take-nil (suc k - suc d))
-drop-take (suc d) (suc k) (x ∷ l) = let e : suc k - suc d ≡ k - d = omega arith in rw e (drop-take d k l)
+  same-numbers : (p k : ℕ) → p + 2 * k ≤ m → numbersAt (take m bytes) p k ≡ numbersAt bytes p k
+  unfolding numbersAt
+  same-numbers p zero h = refl
+  same-numbers p (suc k) h = ap₂ _∷_
+      (ap signed (ap₂ (λ a b. a + 256 * b) (getD-take m bytes p 0 (omega arith)) (getD-take m bytes (p + 1) 0 (omega arith))))
+      (same-numbers (p + 2) k (omega arith))
 
--- where a section passes, the next one decides
-judged-same : (section n : ℕ) (next next′ : Reading) → (n ≡ 0 → next ≡ next′) → judged section n next ≡ judged section n next′
-judged-same section zero next next′ h = h refl
-judged-same section (suc n) next next′ h = refl
+  -- behind q of them
+  same-rest : (q : ℕ) → q ≤ m → m < length bytes → drop q (take m bytes) ≡ take (m - q) (drop q bytes)
+  same-rest q h l =
+      let e : m ≡ q + (m - q) = omega arith in
+      ap (λ (k : ℕ). drop q (take k bytes)) e ∙ ap (drop q) (take-add q (m - q) bytes) ∙
+      drop-at (take q bytes) (take (m - q) (drop q bytes)) q (length-take-le q bytes (omega arith))
 
-module _ (bytes : List ℕ) (k : ℕ) (long : k ≤ length bytes) where
-  len : length (take k bytes) ≡ k
-  len = length-take-le k bytes long
+-- ---- a section whose first m bytes are there, of more
 
-  count-take : 2 ≤ k → countOf (take k bytes) ≡ countOf bytes
-  count-take h = rw (getD-take k bytes 0 0 (omega arith), getD-take k bytes 1 0 (omega arith))
+module _ (m : ℕ) (bytes : List ℕ) (l : m < length bytes) where
+  size : length (take m bytes) ≡ m
+  size = length-take-le m bytes (omega arith)
 
-  system-of-take : 2 + 16 * countOf bytes ≤ k → systemOf (take k bytes) ≡ systemOf bytes
+  same-system : 258 ≤ m → systemSection (take m bytes) ≡ systemSection bytes
   unfolding systemOf
-  system-of-take h =
-      let e = count-take (omega arith) in
-      λ i. record { count = e i; rows = filled ((ap (λ (n : ℕ). numbersAt (take k bytes) 2 (8 * n)) e ∙ numbers-take bytes k 2 (8 * countOf bytes) (omega arith)) i) }
-
-  system-take : 258 ≤ k → systemSection (take k bytes) ≡ systemSection bytes
-  system-take h =
-      let e = count-take (omega arith) in
-      elim (le-or-lt (countOf bytes) 16) [
-        | inr many ↦ system-many (take k bytes) (omega (arith, len)) (omega arith) ∙ sym (system-many bytes (omega arith) many)
-        | inl few ↦ elim (le-or-lt 1 (countOf bytes)) [
-          | inr none ↦ system-none (take k bytes) (omega (arith, len)) (omega arith) ∙ sym (system-none bytes (omega arith) (omega arith))
-          | inl some ↦
-              system-whole (take k bytes) (omega arith) (omega arith) (omega (arith, len)) ∙
-              ap systemJudged (system-of-take (omega arith)) ∙
-              sym (system-whole bytes some few (omega arith))
-        ]
+  same-system h =
+      let t = take m bytes in
+      let c = same-count m bytes (omega arith) in
+      elim (system-way bytes) [
+        | SystemWay.no-count s ↦ absurd (omega arith)
+        | SystemWay.none s e ↦ system-none t (omega (arith, size)) (c ∙ e) ∙ sym (system-none bytes s e)
+        | SystemWay.many s e ↦ system-many t (omega (arith, size)) (omega arith) ∙ sym (system-many bytes s e)
+        | SystemWay.cut-off s some few e ↦ absurd (omega arith)
+        | SystemWay.whole some few fits ↦
+            let rows = ap (λ (k : ℕ). filled (numbersAt t 2 (8 * k))) c ∙ ap filled (same-numbers m bytes 2 (8 * countOf bytes) (omega arith)) in
+            system-whole t (omega arith) (omega arith) (omega (arith, size)) ∙ ap systemJudged (λ i. record { count = c i; rows = rows i }) ∙
+            sym (system-whole bytes some few fits)
       ]
 
-  matrix-take : 10 ≤ k → matrixSection (take k bytes) ≡ matrixSection bytes
-  matrix-take h =
-      let e = count-take (omega arith) in
-      elim (ℕ-discrete (countOf bytes) 4) [
-        | no n ↦ matrix-wrong-count (take k bytes) (omega (arith, len)) (λ z. n (sym e ∙ z)) ∙ sym (matrix-wrong-count bytes (omega arith) n)
-        | yes q ↦
-            matrix-whole (take k bytes) (e ∙ q) (omega (arith, len)) ∙ ap matrixJudged (numbers-take bytes k 2 4 (omega arith)) ∙ sym (matrix-whole bytes q (omega arith))
+  same-matrix : 10 ≤ m → matrixSection (take m bytes) ≡ matrixSection bytes
+  same-matrix h =
+      let t = take m bytes in
+      let c = same-count m bytes (omega arith) in
+      elim (matrix-way bytes) [
+        | MatrixWay.no-count s ↦ absurd (omega arith)
+        | MatrixWay.wrong-count s n ↦ matrix-wrong-count t (omega (arith, size)) (λ e. n (sym c ∙ e)) ∙ sym (matrix-wrong-count bytes s n)
+        | MatrixWay.cut-off s e k ↦ absurd (omega arith)
+        | MatrixWay.whole e s ↦
+            matrix-whole t (c ∙ e) (omega (arith, size)) ∙ ap matrixJudged (same-numbers m bytes 2 4 (omega arith)) ∙ sym (matrix-whole bytes e s)
       ]
 
-  word-take : 4099 ≤ k → wordNumber (take k bytes) ≡ wordNumber bytes
-  word-take h =
-      let e = count-take (omega arith) in
-      elim (le-or-lt (countOf bytes) 4096) [
-        | inr many ↦ word-wrong-count (take k bytes) (omega (arith, len)) (omega arith) ∙ sym (word-wrong-count bytes (omega arith) many)
-        | inl few ↦ word-bytes-follow (take k bytes) (omega arith) (omega (arith, len)) ∙ sym (word-bytes-follow bytes few (omega arith))
+  same-word : 4099 ≤ m → wordNumber (take m bytes) ≡ wordNumber bytes
+  same-word h =
+      let t = take m bytes in
+      let c = same-count m bytes (omega arith) in
+      elim (word-way bytes) [
+        | WordWay.no-count s ↦ absurd (omega arith)
+        | WordWay.wrong-count s n ↦ word-wrong-count t (omega (arith, size)) (omega arith) ∙ sym (word-wrong-count bytes s n)
+        | WordWay.cut-off s k n ↦ absurd (omega arith)
+        | WordWay.bytes-follow k n ↦ word-bytes-follow t (omega arith) (omega (arith, size)) ∙ sym (word-bytes-follow bytes k n)
+        | WordWay.whole k e ↦ absurd (omega arith)
       ]
 
--- ---- section by section, from the last
+-- ---- from section to section
 
-word-settled : (bytes : List ℕ) (k start : ℕ) (input output : System) (matrix : List ℤ) → 4099 ≤ k → k ≤ length bytes →
-    wordRead (take k bytes) start input output matrix ≡ wordRead bytes start input output matrix
+-- what follows a section counts only where its number is 0
+judged-same : (section number : ℕ) {x y : Reading} → (number ≡ 0 → x ≡ y) → judged section number x ≡ judged section number y
+judged-same section zero f = f refl
+judged-same section (suc n) f = refl
+
+-- bytes that are not more than m are all there
+or-all : (m : ℕ) (bytes : List ℕ) (f : List ℕ → Reading) → (m < length bytes → f (take m bytes) ≡ f bytes) → f (take m bytes) ≡ f bytes
+or-all m bytes f more = elim (le-or-lt (length bytes) m) [ inl h ↦ ap f (take-all m bytes h) | inr h ↦ more h ]
+
+word-settled : (m : ℕ) (bytes : List ℕ) (start : ℕ) (s t : System) (x : List ℤ) → 4099 ≤ m → wordRead (take m bytes) start s t x ≡ wordRead bytes start s t x
 unfolding wordRead
-word-settled bytes k start input output matrix h long = rw (word-take bytes k long h, count-take bytes k long (omega arith))
+word-settled m bytes start s t x h = or-all m bytes (λ b. wordRead b start s t x) (λ l. λ i.
+    judged 3 (same-word m bytes l h i) (record {
+      verdict = Reads;
+      job = record { input = s; output = t; matrix = x; word = record { start = start + 2; length = same-count m bytes (omega arith) i } };
+    }))
 
-matrix-settled : (bytes : List ℕ) (k start : ℕ) (input output : System) → 4109 ≤ k → k ≤ length bytes →
-    matrixRead (take k bytes) start input output ≡ matrixRead bytes start input output
+matrix-settled : (m : ℕ) (bytes : List ℕ) (start : ℕ) (s t : System) → 4109 ≤ m → matrixRead (take m bytes) start s t ≡ matrixRead bytes start s t
 unfolding matrixRead
-matrix-settled bytes k start input output h long =
-    rw (matrix-take bytes k long (omega arith), drop-take 10 k bytes, word-settled (drop 10 bytes) (k - 10) (start + 10) input output (matrixSection bytes .matrix) (omega arith) (omega (arith, length-drop 10 bytes)))
+matrix-settled m bytes start s t h = or-all m bytes (λ b. matrixRead b start s t) (λ l.
+    let r = same-matrix m bytes l (omega arith) in
+    (λ i. judged 2 (r i .number) (wordRead (same-rest m bytes 10 (omega arith) l i) (start + 10) s t (r i .matrix))) ∙
+    ap (λ (w : Reading). judged 2 (matrixSection bytes .number) w) (word-settled (m - 10) (drop 10 bytes) (start + 10) s t (matrixSection bytes .matrix) (omega arith)))
 
--- a system, and what is read behind it
-system-settled : (bytes : List ℕ) (k m section : ℕ) (next : List ℕ → ℕ → System → Reading) → 258 + m ≤ k → k ≤ length bytes →
-    ((b : List ℕ) (j size : ℕ) (s : System) → m ≤ j → j ≤ length b → next (take j b) size s ≡ next b size s) →
-    judged section (systemSection (take k bytes) .number) (next (drop (systemSize (take k bytes)) (take k bytes)) (systemSize (take k bytes)) (systemSection (take k bytes) .system)) ≡
-    judged section (systemSection bytes .number) (next (drop (systemSize bytes) bytes) (systemSize bytes) (systemSection bytes .system))
-system-settled bytes k m section next h long same =
-    let e = system-take bytes k long (omega arith) in
-    let f : systemSize (take k bytes) ≡ systemSize bytes = ap (λ (n : ℕ). 2 + 16 * n) (count-take bytes k long (omega arith)) in
-    (λ i. judged section (e i .number) (next (drop (f i) (take k bytes)) (f i) (e i .system))) ∙
-    judged-same section (systemSection bytes .number) _ _
-    (λ z.
-    let few = system-present bytes z .few-digits in
-    ap (λ (b : List ℕ). next b (systemSize bytes) (systemSection bytes .system)) (drop-take (systemSize bytes) k bytes) ∙
-    same (drop (systemSize bytes) bytes) (k - systemSize bytes) (systemSize bytes) (systemSection bytes .system) (omega arith) (omega (arith, length-drop (systemSize bytes) bytes)))
-
-output-settled : (bytes : List ℕ) (k start : ℕ) (input : System) → 4367 ≤ k → k ≤ length bytes → outputRead (take k bytes) start input ≡ outputRead bytes start input
+output-settled : (m : ℕ) (bytes : List ℕ) (start : ℕ) (s : System) → 4367 ≤ m → outputRead (take m bytes) start s ≡ outputRead bytes start s
 unfolding outputRead
-output-settled bytes k start input h long =
-    system-settled bytes k 4109 1 (λ b size s. matrixRead b (start + size) input s) h long
-    (λ b j size s p q. matrix-settled b j (start + size) input s p q)
-
--- ---- the whole file
-
-long-settled : (file : List ℕ) → 4625 ≤ length file → readOf (take 4625 file) ≡ readOf file
-unfolding readOf
-long-settled file long = system-settled file 4625 4367 0 outputRead (omega arith) long (λ b j size s p q. output-settled b j size s p q)
+output-settled m bytes start s h = or-all m bytes (λ b. outputRead b start s) (λ l.
+    let r = same-system m bytes l (omega arith) in
+    let c = same-count m bytes (omega arith) in
+    let n = systemSize bytes in
+    let t = systemSection bytes .system in
+    (λ i. judged 1 (r i .number) (matrixRead (drop (2 + 16 * c i) (take m bytes)) (start + (2 + 16 * c i)) s (r i .system))) ∙
+    judged-same 1 (systemSection bytes .number) (λ e. let p = system-present bytes e in
+    ap (λ (b : List ℕ). matrixRead b (start + n) s t) (same-rest m bytes n (omega (arith, p)) l) ∙
+    matrix-settled (m - n) (drop n bytes) (start + n) s t (omega (arith, p))))
 
 pub settled : (file : List ℕ) → readOf (take 4625 file) ≡ readOf file
-settled file = elim (le-or-lt (length file) 4625) [ inl short ↦ ap readOf (take-all 4625 file short) | inr long ↦ long-settled file (omega arith) ]
+unfolding readOf
+settled file = or-all 4625 file readOf (λ l.
+    let r = same-system 4625 file l (omega arith) in
+    let c = same-count 4625 file (omega arith) in
+    let n = systemSize file in
+    let s = systemSection file .system in
+    (λ i. judged 0 (r i .number) (outputRead (drop (2 + 16 * c i) (take 4625 file)) (2 + 16 * c i) (r i .system))) ∙
+    judged-same 0 (systemSection file .number) (λ e. let p = system-present file e in
+    ap (λ (b : List ℕ). outputRead b n s) (same-rest 4625 file n (omega (arith, p)) l) ∙ output-settled (4625 - n) (drop n file) n s (omega (arith, p))))

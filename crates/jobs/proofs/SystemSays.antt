@@ -1,11 +1,11 @@
 -- The answer about a system's section says what document 01 says: 0 exactly where the bytes begin with the layout of a system that keeps the rules, and each number exactly
 -- where its sentence holds (specs/Refuses.antt).
-use mathlib.Core.Path.{_≡_, refl, sym, ap, _∙_, subst}
-use mathlib.Core.List.{List, _∷_, _++_, append-assoc}
-use mathlib.Core.Logic.{_⊎_, inl, inr}
-use Prim.Native.Nat.{ℕ, zero, suc, _+_, _*_, _≤_, _<_}
+use mathlib.Core.Path.{_≡_, sym, ap, _∙_, subst}
+use mathlib.Core.List.{List, _++_}
+use mathlib.Core.Logic.{inl, inr}
+use Prim.Native.Nat.{ℕ, zero, suc, _+_, _*_, _≤_}
 use native.Mathlib.Omega.{arith}
-use lib.ListN.{length, take, drop, length-drop, length-append}
+use lib.ListN.{length, take, drop, length-drop}
 use lib.IntN.{ℤ}
 use Rattle.digits.specs.Admission.{refusalNumber, admissionOf}
 use Rattle.digits.specs.Admitted.{SystemCase, Admissible}
@@ -16,7 +16,7 @@ use Rattle.digits.specs.declared.Admission.the-variants.{Admitted, WrongCount, 
 use Rattle.digits.proofs.AdmittedSays.{admitted-says, admitted-only}
 use Rattle.jobs.specs.Layout.{twoBytes, numbersBytes, systemBytes, Bytes, SystemRules}
 use Rattle.jobs.specs.Reading.{countOf, numbersAt, systemOf, systemSize, systemJudged, systemSection}
-use Rattle.jobs.specs.Refuses.{Counted, Section, BreaksSystem}
+use Rattle.jobs.specs.Refuses.{Section, BreaksSystem}
 use Rattle.jobs.specs.declared.SystemSection.{SystemSection}
 use Rattle.jobs.proofs.Begins.{counted, numbers-follow, section, count-read, section-read, filled-take}
 use Rattle.jobs.proofs.Sixteen.{rows-length, system-16}

@@ -10,24 +10,11 @@ use borrow.Author.Tests.{leb-true, leb-false}
 use lib.Dec.{leb}
 use lib.ListN.{length, take, drop, length-drop}
 use lib.Seq.{take-all}
-use Rattle.jobs.specs.Reading.{countOf, systemOf, systemSize, systemJudged, systemSection, matrixSection, wordNumber, refused, judged}
+use Rattle.jobs.specs.Reading.{countOf, systemOf, systemSize, systemSection, matrixSection, wordNumber, refused, judged}
 use Rattle.jobs.specs.declared.Reading.{Reading}
 use Rattle.jobs.specs.declared.SystemSection.{SystemSection}
 use Rattle.jobs.specs.declared.MatrixSection.{MatrixSection}
-use Rattle.jobs.proofs.Sections.{
-  system-no-count,
-  system-none,
-  system-many,
-  system-cut-off,
-  system-whole,
-  matrix-no-count,
-  matrix-wrong-count,
-  matrix-cut-off,
-  word-no-count,
-  word-wrong-count,
-  word-cut-off,
-  word-bytes-follow,
-}
+use Rattle.jobs.proofs.Sections.{system-no-count, system-none, system-many, system-cut-off, system-whole, matrix-no-count, matrix-wrong-count, matrix-cut-off, word-no-count, word-wrong-count, word-cut-off, word-bytes-follow}
 
 pub le-or-lt : (a b : ℕ) → (a ≤ b) ⊎ (b < a)
 le-or-lt a b = by (leb a b) refl

@@ -1,6 +1,6 @@
 -- The answer about a word's section says what document 01 says: 0 exactly where the bytes are the layout of a word of at most 4096 bytes, and each number exactly where its
 -- sentence holds (specs/Refuses.antt).
-use mathlib.Core.Path.{_≡_, refl, sym, ap, _∙_, subst}
+use mathlib.Core.Path.{_≡_, sym, ap, _∙_, subst}
 use mathlib.Core.List.{List, _∷_, _++_}
 use Prim.Native.Nat.{ℕ, zero, suc, _+_, _≤_, _<_}
 use native.Mathlib.Omega.{arith}

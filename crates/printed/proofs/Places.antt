@@ -1,11 +1,11 @@
 -- The laws of texts in a buffer that is filled from its end: one byte, a text in front of a text, and the room that is left.
-use mathlib.Core.Path.{_≡_, refl, sym, ap, ap₂, _∙_, subst}
+use mathlib.Core.Path.{_≡_, sym, ap, ap₂, _∙_, subst}
 use mathlib.Core.List.{List, [], _∷_, _++_, append-assoc}
-use Prim.Native.Nat.{ℕ, suc, _+_, _-_, _≤_, _<_}
+use Prim.Native.Nat.{ℕ, suc, _+_, _-_, _≤_}
 use native.Mathlib.Omega.{arith}
 use lib.ListN.{length, take, drop, set, length-append, length-drop, take-append-drop}
 use lib.Seq.{set-split, take-append-le, take-take, drop-at, length-take-le}
-use Rattle.printed.specs.Place.{Put, Room}
+use Rattle.printed.specs.Place.{Put}
 
 -- one byte in front of a place
 pub put-byte : (old : List ℕ) (at : ℕ) (b : ℕ) → 1 ≤ at → at ≤ length old → Put old at (b ∷ []) (set old (at - 1) b) (at - 1)

@@ -3,7 +3,7 @@
 -- line: `refused`, number, section." A text is a list of bytes (ASCII).
 use mathlib.Core.Bool.{cond}
 use mathlib.Core.List.{List, [], _∷_, _++_, map}
-use Prim.Native.Nat.{ℕ, zero, suc, _+_, _/_, _%_}
+use Prim.Native.Nat.{ℕ, zero, suc, _+_, _*_, _-_, _/_, _%_}
 use lib.Dec.{eqb}
 use lib.ListN.{take, drop}
 use lib.IntN.{ℤ, pos, negsuc}
@@ -33,6 +33,11 @@ leading (suc k) n = cond (eqb n 0) [] (leading k (n / 10) ++ (glyph (n % 10) ∷
 -- a number below 10^20, as every number of 64 bits is: its last digit, and what stands in front of it
 unfoldable pub decimal : ℕ → List ℕ
 decimal n = leading 19 (n / 10) ++ (glyph (n % 10) ∷ [])
+
+-- the number that a text of decimal digits says, behind a number that stands in front of it; the theorem `decimal-says` proves that `decimal n` says n, with no 0 in front
+abbrev pub valueBy : ℕ → List ℕ → ℕ
+valueBy front [] = front
+valueBy front (b ∷ bs) = valueBy (10 * front + (b - 48)) bs
 
 -- `-` is 45
 unfoldable pub signedText : ℤ → List ℕ

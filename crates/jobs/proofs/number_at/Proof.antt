@@ -1,9 +1,8 @@
 -- `jobs::number_at` meets its contract: below 32768 the number is what the bytes say, and from there on 65536 less.
 use borrow.Author.Needs.{needs}
-use mathlib.Core.Path.{_≡_, sym, ap, _∙_, subst}
-use Prim.Native.Nat.{_^_, _<_}
+use mathlib.Core.Path.{_≡_, ap, _∙_}
 use native.Mathlib.Omega.{arith}
-use lib.IntN.{ℤ, pos, negsuc, _-ℤ_}
+use lib.IntN.{ℤ, pos, _-ℤ_}
 use mir.Syntax.{w16, w64}
 use mir.Val.{SFits, toZ}
 use mir.Facts.{toZ-pos}

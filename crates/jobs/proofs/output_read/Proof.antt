@@ -1,6 +1,6 @@
 -- `jobs::output_read` meets its contract: the output system's number, or what the matrix behind it decides.
 use borrow.Author.Needs.{needs}
-use mathlib.Core.Path.{_≡_, ap, ap₂, _∙_}
+use mathlib.Core.Path.{ap, ap₂, _∙_}
 use Prim.Native.Nat.{ℕ, _+_, _*_}
 use mathlib.Core.List.{List}
 use native.Mathlib.Omega.{arith}

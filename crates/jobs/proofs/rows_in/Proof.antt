@@ -1,7 +1,7 @@
 -- `jobs::rows_in` meets its contract. The invariant: the first i numbers stand in their places, with 0 behind them.
 use borrow.Author.Needs.{needs}
 use mathlib.Core.Path.{_≡_, refl, sym, ap, ap₂, _∙_}
-use Prim.Native.Nat.{ℕ, _+_, _*_, _-_, _≤_}
+use Prim.Native.Nat.{ℕ, _-_, _≤_}
 use native.Mathlib.Omega.{arith}
 use lib.ListN.{set}
 use mir.Facts.{toZ-ofZ}

@@ -1,10 +1,10 @@
 -- `jobs::system_section` meets its contract: one law for each way that a system's section can go. A whole section is judged as `digits::judged` judges it.
 use borrow.Author.Needs.{needs}
-use mathlib.Core.Path.{_≡_, sym, ap, ap₂, _∙_}
+use mathlib.Core.Path.{_≡_, sym, ap, _∙_}
 use Prim.Native.Nat.{ℕ, _*_}
 use native.Mathlib.Omega.{arith}
 use denote.Ref.{now}
-use Rattle.digits.specs.Admission.{refusalNumber, admissionOf}
+use Rattle.digits.specs.Admission.{refusalNumber}
 use Rattle.digits.specs.BuiltIn.{filled}
 use Rattle.jobs.specs.Reading.{countOf, numbersAt, systemOf, systemJudged}
 use Rattle.jobs.proofs.Sections.{system-no-count, system-none, system-many, system-cut-off, system-whole}

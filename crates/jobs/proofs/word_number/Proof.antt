@@ -1,11 +1,8 @@
 -- `jobs::word_number` meets its contract: one law for each way that a word's section can go.
 use borrow.Author.Needs.{needs}
-use mathlib.Core.Path.{_≡_, sym}
-use Prim.Native.Nat.{_+_, _≤_}
+use mathlib.Core.Path.{sym}
 use native.Mathlib.Omega.{arith}
-use lib.ListN.{length}
 use denote.Ref.{now}
-use Rattle.jobs.specs.Reading.{countOf}
 use Rattle.jobs.proofs.Sections.{word-no-count, word-wrong-count, word-cut-off, word-bytes-follow, word-reads}
 use Rattle.jobs.proofs.word_number.Statement.{statement}
 use Rattle.jobs.proofs.word_number.Tie as tie

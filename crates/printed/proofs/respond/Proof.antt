@@ -1,6 +1,7 @@
--- `printed::respond` meets its contract: the file's refusal, or the run of the job that was read. The word lies inside the file, and what the run has written inside the room.
+-- `printed::respond` meets its contract: the file's refusal, or the run of the job that was read. The word lies inside the file, and what the run has written inside the
+-- room.
 use borrow.Author.Needs.{needs}
-use mathlib.Core.Path.{_≡_, refl, sym, ap, ap₂, _∙_, subst}
+use mathlib.Core.Path.{_≡_, sym, ap, ap₂, _∙_, subst}
 use mathlib.Core.List.{List}
 use Prim.Native.Nat.{ℕ, _+_, _-_, _≤_}
 use native.Mathlib.Omega.{arith}
@@ -13,10 +14,10 @@ use Rattle.unary.specs.declared.Answer.{Answer}
 use Rattle.unary.proofs.Answers.{in-range}
 use Rattle.jobs.specs.Layout.{Bytes}
 use Rattle.jobs.specs.Reading.{readOf}
-use Rattle.jobs.specs.declared.Verdict.the-variants.{Reads, Refused}
+use Rattle.jobs.specs.declared.Verdict.the-variants.{Reads}
 use Rattle.jobs.specs.declared.Reading.{Reading}
 use Rattle.jobs.proofs.Lengths.{word-inside}
-use Rattle.printed.specs.Text.{answerText, runIn, ranText, printedBy, printed, filledOn, filledBy}
+use Rattle.printed.specs.Text.{answerText, runIn, printedBy, printed, filledOn, filledBy}
 use Rattle.printed.proofs.Places.{put-as}
 use Rattle.printed.proofs.respond.Statement.{statement}
 use Rattle.printed.proofs.respond.Tie as tie
