@@ -1,0 +1,65 @@
+-- What each call leaves, by the case that applies.
+use mathlib.Core.Path.{_≡_, refl, ap, _∙_}
+use mathlib.Core.Bool.{Bool, true, false, cond, _&&_}
+use mathlib.Core.List.{List, []}
+use Prim.Native.Nat.{ℕ, _/_}
+use native.Mathlib.Omega.{arith}
+use lib.Dec.{eqb}
+use lib.ListN.{length}
+use lib.IntN.{ℤ}
+use borrow.Author.Tests.{eq-eqb, ne-eqb, eqb-true}
+use Rattle.unary.specs.State.{openOf}
+use Rattle.unary.specs.Run.{Ran, runOf}
+use Rattle.plugin.specs.Numbers.{wrongLength, rows?, systemFrom, stateFrom}
+use Rattle.plugin.specs.Calls.{admitted, admitNumber, Wrote, wrote, handedOut, openLengths?, fourOf, opened, openCall, Call, ranCall, runLengths?, runCall}
+
+-- the rows of a built-in system
+pub handed-shut : (rows old : List ℤ) → (length old ≡ length rows → ⊥) → handedOut rows old ≡ wrote wrongLength old
+unfolding handedOut
+handed-shut rows old e = rw (ne-eqb (length old) (length rows) e)
+
+pub handed : (rows old : List ℤ) → length old ≡ length rows → handedOut rows old ≡ wrote 0 rows
+unfolding handedOut
+handed rows old e = rw (eq-eqb (length old) (length rows) e)
+
+-- opening
+pub open-shut-matrix : (m old : List ℤ) → (length m ≡ 4 → ⊥) → openCall m old ≡ wrote wrongLength old
+unfolding openCall
+open-shut-matrix m old e = rw (ne-eqb (length m) 4 e)
+
+pub open-shut-state : (m old : List ℤ) → length m ≡ 4 → (length old ≡ 5 → ⊥) → openCall m old ≡ wrote wrongLength old
+unfolding openCall
+open-shut-state m old p e = rw (eq-eqb (length m) 4 p, ne-eqb (length old) 5 e)
+
+pub opens : (m old : List ℤ) → length m ≡ 4 → length old ≡ 5 → openCall m old ≡ opened (openOf (fourOf m)) old
+unfolding openCall
+opens m old p q = rw (eq-eqb (length m) 4 p, eq-eqb (length old) 5 q)
+
+-- a run
+module _ (ins outs old : List ℤ) (input output counts : List ℕ) where
+  pub run-shut : runLengths? ins outs old counts ≡ false → runCall ins outs old input output counts ≡ record { number = wrongLength; state = old; output = output; counts = counts }
+  unfolding runCall
+  run-shut e = rw e
+
+  pub runs : runLengths? ins outs old counts ≡ true → runCall ins outs old input output counts ≡ ranCall (runOf (systemFrom ins) (systemFrom outs) (stateFrom old) input output) old
+  unfolding runCall
+  runs e = rw e
+
+-- what the lengths of a run's slices say, where all are right
+count : Bool → ℕ
+count t = cond t 1 0
+
+last-two : (a b c d : Bool) → (a && b && c && d) ≡ true → (c ≡ true) × (d ≡ true)
+unfolding count
+last-two true true true true e = (refl, refl)
+last-two true true true false e = absurd (omega (arith, ap count e))
+last-two true true false d e = absurd (omega (arith, ap count e))
+last-two true false c d e = absurd (omega (arith, ap count e))
+last-two false b c d e = absurd (omega (arith, ap count e))
+
+module _ (ins outs old : List ℤ) (counts : List ℕ) (right : runLengths? ins outs old counts ≡ true) where
+  pub state-five : length old ≡ 5
+  state-five = eqb-true (length old) 5 (last-two (rows? ins) (rows? outs) (eqb (length old) 5) (eqb (length counts) 2) right .0)
+
+  pub counts-two : length counts ≡ 2
+  counts-two = eqb-true (length counts) 2 (last-two (rows? ins) (rows? outs) (eqb (length old) 5) (eqb (length counts) 2) right .1)
