@@ -38,10 +38,20 @@
 #ifndef SLEDHILLOCK_H
 #define SLEDHILLOCK_H
 
-#ifdef SLEDHILLOCK_NO_STDINT /* for a compiler without the standard headers: declare the six types yourself before this file */
-#else
+#ifdef __has_include
+#if !__has_include(<stdint.h>)
+#define SLED_NO_HEADERS /* a compiler without its headers, as the Rattle toolchain's own */
+#endif
+#endif
+#ifndef SLED_NO_HEADERS
 #include <stddef.h>
 #include <stdint.h>
+#else
+typedef __UINT8_TYPE__ uint8_t;
+typedef __INT16_TYPE__ int16_t;
+typedef __INT64_TYPE__ int64_t;
+typedef __UINT32_TYPE__ uint32_t;
+typedef __SIZE_TYPE__ size_t;
 #endif
 
 #ifdef __cplusplus

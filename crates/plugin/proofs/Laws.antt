@@ -11,7 +11,7 @@ use borrow.Author.Tests.{eq-eqb, ne-eqb, eqb-true}
 use Rattle.unary.specs.State.{openOf}
 use Rattle.unary.specs.Run.{Ran, runOf}
 use Rattle.plugin.specs.Numbers.{wrongLength, rows?, systemFrom, stateFrom}
-use Rattle.plugin.specs.Calls.{admitted, admitNumber, Wrote, wrote, handedOut, openLengths?, fourOf, opened, openCall, Call, ranCall, runLengths?, runCall}
+use Rattle.plugin.specs.Calls.{admitted, admitNumber, Wrote, wrote, handedOut, openLengths?, fourOf, opened, openCall, Call, left, ranCall, runLengths?, runCall}
 
 -- the rows of a built-in system
 pub handed-shut : (rows old : List ℤ) → (length old ≡ length rows → ⊥) → handedOut rows old ≡ wrote wrongLength old
@@ -36,12 +36,12 @@ unfolding openCall
 opens m old p q = rw (eq-eqb (length m) 4 p, eq-eqb (length old) 5 q)
 
 -- a run
-module _ (ins outs old : List ℤ) (input output counts : List ℕ) where
-  pub run-shut : runLengths? ins outs old counts ≡ false → runCall ins outs old input output counts ≡ record { number = wrongLength; state = old; output = output; counts = counts }
+module _ (ins outs : List ℤ) (input : List ℕ) (old : List ℤ) (output counts : List ℕ) where
+  pub run-shut : runLengths? ins outs old counts ≡ false → runCall ins outs input old output counts ≡ left wrongLength old output counts
   unfolding runCall
   run-shut e = rw e
 
-  pub runs : runLengths? ins outs old counts ≡ true → runCall ins outs old input output counts ≡ ranCall (runOf (systemFrom ins) (systemFrom outs) (stateFrom old) input output) old
+  pub runs : runLengths? ins outs old counts ≡ true → runCall ins outs input old output counts ≡ ranCall (runOf (systemFrom ins) (systemFrom outs) (stateFrom old) input output) old
   unfolding runCall
   runs e = rw e
 

@@ -61,19 +61,19 @@ pub record Call : Type 0 where
   pub output : List ℕ
   pub counts : List ℕ
 
+abbrev pub left : ℕ → List ℤ → List ℕ → List ℕ → Call
+left n s out c = record { number = n; state = s; output = out; counts = c }
+
 abbrev pub ranCall : Ran → List ℤ → Call
-ranCall r old = record {
-  number = endNumber (r .answer .stop);
-  state = stateAfter (r .answer .stop) (r .answer .state) old;
-  output = r .output;
-  counts = r .answer .taken .0 ∷ r .answer .written .0 ∷ [];
-}
+ranCall r old =
+    left (endNumber (r .answer .stop)) (stateAfter (r .answer .stop) (r .answer .state) old) (r .output) (r .answer .taken .0 ∷ r .answer .written .0 ∷ [])
 
 abbrev pub runLengths? : List ℤ → List ℤ → List ℤ → List ℕ → Bool
 runLengths? ins outs old counts = rows? ins && rows? outs && eqb (length old) 5 && eqb (length counts) 2
 
-unfoldable pub runCall : List ℤ → List ℤ → List ℤ → List ℕ → List ℕ → List ℕ → Call
-runCall ins outs old input output counts =
+-- of the two systems, the input, and then what is written over: the state, the output and the counts
+unfoldable pub runCall : List ℤ → List ℤ → List ℕ → List ℤ → List ℕ → List ℕ → Call
+runCall ins outs input old output counts =
     cond (runLengths? ins outs old counts)
     (ranCall (runOf (systemFrom ins) (systemFrom outs) (stateFrom old) input output) old)
-    (record { number = wrongLength; state = old; output = output; counts = counts })
+    (left wrongLength old output counts)

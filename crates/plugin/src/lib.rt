@@ -9,7 +9,7 @@ ghost use mathlib.Core.Bool.{_&&_};
 ghost use Rattle.digits.specs.BuiltIn.{joined, rowsR, rowsB, rowsD};
 ghost use Rattle.unary.specs.State.{endNumber, openingNumber};
 ghost use Rattle.plugin.specs.Numbers.{rows?, systemFrom, heldNumber, stateNumbers, heldFrom, stateFrom, refused?, stateAfter};
-ghost use Rattle.plugin.specs.Calls.{admitNumber, handedOut, openCall, runLengths?, runCall};
+ghost use Rattle.plugin.specs.Calls.{admitNumber, wrote, handedOut, openCall, left, runCall};
 use digits::System;
 use unary::Answer;
 use unary::Held;
@@ -137,8 +137,7 @@ fn end_number(stop: Stop) -> u32
 // The rows of a built-in system of at most 16 digits, into a slice of exactly as many numbers.
 fn hand_out(s: System, rows: &mut [i16]) -> u32
     requires { ⌜ (s .count ≤ 16) × (8 * s .count ≤ length (s .rows)) ⌝ }
-    ensures { λ r. ⌜ r ≡ handedOut (take (8 * s .count) (s .rows)) (now (rows .entry)) .number ⌝ }
-    ensures { λ _. ⌜ now (rows .exit) ≡ handedOut (take (8 * s .count) (s .rows)) (now (rows .entry)) .numbers ⌝ }
+    ensures { λ r. ⌜ wrote r (now (rows .exit)) ≡ handedOut (take (8 * s .count) (s .rows)) (now (rows .entry)) ⌝ }
 {
     let n = 8 * s.count;
     let all = s.rows;
@@ -163,8 +162,7 @@ pub extern "C" fn sled_admit(rows: &[i16]) -> u32
 // The built-in system R: 32 numbers.
 #[no_mangle]
 pub extern "C" fn sled_system_r(rows: &mut [i16]) -> u32
-    ensures { λ r. ⌜ r ≡ handedOut (joined rowsR) (now (rows .entry)) .number ⌝ }
-    ensures { λ _. ⌜ now (rows .exit) ≡ handedOut (joined rowsR) (now (rows .entry)) .numbers ⌝ }
+    ensures { λ r. ⌜ wrote r (now (rows .exit)) ≡ handedOut (joined rowsR) (now (rows .entry)) ⌝ }
 {
     hand_out(digits::system_r(), rows)
 }
@@ -172,8 +170,7 @@ pub extern "C" fn sled_system_r(rows: &mut [i16]) -> u32
 // The built-in system B: 64 numbers.
 #[no_mangle]
 pub extern "C" fn sled_system_b(rows: &mut [i16]) -> u32
-    ensures { λ r. ⌜ r ≡ handedOut (joined rowsB) (now (rows .entry)) .number ⌝ }
-    ensures { λ _. ⌜ now (rows .exit) ≡ handedOut (joined rowsB) (now (rows .entry)) .numbers ⌝ }
+    ensures { λ r. ⌜ wrote r (now (rows .exit)) ≡ handedOut (joined rowsB) (now (rows .entry)) ⌝ }
 {
     hand_out(digits::system_b(), rows)
 }
@@ -181,8 +178,7 @@ pub extern "C" fn sled_system_b(rows: &mut [i16]) -> u32
 // The built-in system D: 32 numbers.
 #[no_mangle]
 pub extern "C" fn sled_system_d(rows: &mut [i16]) -> u32
-    ensures { λ r. ⌜ r ≡ handedOut (joined rowsD) (now (rows .entry)) .number ⌝ }
-    ensures { λ _. ⌜ now (rows .exit) ≡ handedOut (joined rowsD) (now (rows .entry)) .numbers ⌝ }
+    ensures { λ r. ⌜ wrote r (now (rows .exit)) ≡ handedOut (joined rowsD) (now (rows .entry)) ⌝ }
 {
     hand_out(digits::system_d(), rows)
 }
@@ -190,8 +186,7 @@ pub extern "C" fn sled_system_d(rows: &mut [i16]) -> u32
 // Opens a session for a matrix of four numbers: 0, and the state's five numbers are written; or the number of the refusal, and nothing is written.
 #[no_mangle]
 pub extern "C" fn sled_open(matrix: &[i64], state: &mut [i64]) -> u32
-    ensures { λ r. ⌜ r ≡ openCall (now (matrix .entry)) (now (state .entry)) .number ⌝ }
-    ensures { λ _. ⌜ now (state .exit) ≡ openCall (now (matrix .entry)) (now (state .entry)) .numbers ⌝ }
+    ensures { λ r. ⌜ wrote r (now (state .exit)) ≡ openCall (now (matrix .entry)) (now (state .entry)) ⌝ }
 {
     if matrix.len() != 4 {
         return WRONG_LENGTH;
@@ -238,10 +233,7 @@ pub extern "C" fn sled_run(
     output: &mut [u8],
     counts: &mut [usize],
 ) -> u32
-    ensures { λ r. ⌜ r ≡ runCall (now (ins .entry)) (now (outs .entry)) (now (state .entry)) (now (input .entry)) (now (output .entry)) (now (counts .entry)) .number ⌝ }
-    ensures { λ _. ⌜ now (state .exit) ≡ runCall (now (ins .entry)) (now (outs .entry)) (now (state .entry)) (now (input .entry)) (now (output .entry)) (now (counts .entry)) .state ⌝ }
-    ensures { λ _. ⌜ now (output .exit) ≡ runCall (now (ins .entry)) (now (outs .entry)) (now (state .entry)) (now (input .entry)) (now (output .entry)) (now (counts .entry)) .output ⌝ }
-    ensures { λ _. ⌜ now (counts .exit) ≡ runCall (now (ins .entry)) (now (outs .entry)) (now (state .entry)) (now (input .entry)) (now (output .entry)) (now (counts .entry)) .counts ⌝ }
+    ensures { λ r. ⌜ left r (now (state .exit)) (now (output .exit)) (now (counts .exit)) ≡ runCall (now (ins .entry)) (now (outs .entry)) (now (input .entry)) (now (state .entry)) (now (output .entry)) (now (counts .entry)) ⌝ }
 {
     if !run_lengths(ins.len(), outs.len(), state.len(), counts.len()) {
         return WRONG_LENGTH;

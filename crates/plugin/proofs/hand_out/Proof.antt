@@ -8,7 +8,7 @@ use lib.IntN.{ℤ}
 use lib.ListN.{length, take, drop}
 use lib.Seq.{length-take-le, drop-length}
 use denote.Ref.{now}
-use Rattle.plugin.specs.Calls.{Wrote, wrote, handedOut}
+use Rattle.plugin.specs.Calls.{wrote, handedOut}
 use Rattle.plugin.proofs.Laws.{handed-shut, handed}
 use Rattle.plugin.proofs.hand_out.Statement.{statement}
 use Rattle.plugin.proofs.hand_out.Tie as tie
@@ -28,8 +28,7 @@ other n rows old h e = sym (handed-shut (take n rows) old (λ q. e (q ∙ length
 returns : tie.Need-returns
 returns c =
     let s = c .before .before .before in
-    let e = other (8 * s .args .s .count) (s .args .s .rows) (now (s .args .rows)) (s .pre .1) (c .if1 .taken) in
-    (ap (λ (x : Wrote). x .number) e, ap (λ (x : Wrote). x .numbers) e)
+    other (8 * s .args .s .count) (s .args .s .rows) (now (s .args .rows)) (s .pre .1) (c .if1 .taken)
 
 copy-requires : tie.Need-copy-requires
 copy-requires c κs = (omega (arith, slice-aggregate-copy (c .before)), omega arith)
@@ -39,8 +38,7 @@ returns-2 c =
     let k = c .before in
     let b = k .before .before in
     let s = b .before .before .before .before in
-    let e = whole (8 * s .args .s .count) (s .args .s .rows) (now (s .args .rows)) _ (s .pre .1) (b .before .if1 .left) (k .copy .ensures) in
-    (ap (λ (x : Wrote). x .number) e, ap (λ (x : Wrote). x .numbers) e)
+    whole (8 * s .args .s .count) (s .args .s .rows) (now (s .args .rows)) _ (s .pre .1) (b .before .if1 .left) (k .copy .ensures)
 
 pub hand-out-spec : {M : Type 1} → statement M
 hand-out-spec = tie.close (tie.spec (λ c. search needs) returns slice-aggregate-copy copy-requires (λ c. search needs) returns-2)

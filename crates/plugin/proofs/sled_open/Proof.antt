@@ -12,22 +12,16 @@ use Rattle.unary.specs.declared.Opening.{Opening}
 use Rattle.unary.specs.declared.Start.{Start}
 use Rattle.unary.specs.State.{openOf}
 use Rattle.plugin.specs.Numbers.{stateNumbers}
-use Rattle.plugin.specs.Calls.{Wrote, wrote, startNumbers, opened, openCall, fourOf}
+use Rattle.plugin.specs.Calls.{wrote, startNumbers, opened, openCall, fourOf}
 use Rattle.plugin.proofs.Laws.{open-shut-matrix, open-shut-state, opens}
 use Rattle.plugin.proofs.sled_open.Statement.{statement}
 use Rattle.plugin.proofs.sled_open.Tie as tie
 
 returns : tie.Need-returns
-returns c =
-    let a = c .before .args in
-    let e = sym (open-shut-matrix (now (a .matrix)) (now (a .state)) (c .if1 .taken)) in
-    (ap (λ (w : Wrote). w .number) e, ap (λ (w : Wrote). w .numbers) e)
+returns c = let a = c .before .args in sym (open-shut-matrix (now (a .matrix)) (now (a .state)) (c .if1 .taken))
 
 returns-2 : tie.Need-returns-2
-returns-2 c =
-    let a = c .before .before .args in
-    let e = sym (open-shut-state (now (a .matrix)) (now (a .state)) (c .before .if1 .left) (c .if2 .taken)) in
-    (ap (λ (w : Wrote). w .number) e, ap (λ (w : Wrote). w .numbers) e)
+returns-2 c = let a = c .before .before .args in sym (open-shut-state (now (a .matrix)) (now (a .state)) (c .before .if1 .left) (c .if2 .taken))
 
 -- what opening answered decides, where the lengths are right
 abbrev start : tie.After-open → tie.Start
@@ -49,21 +43,16 @@ told : (o : tie.After-open) (v : Opening) → o .«open» .result .opening ≡ v
 told o v e = law o ∙ ap (λ (x : Opening). startNumbers x (o .«open» .result) (now (start o .args .state))) e
 
 returns-3 : tie.Need-returns-3
-returns-3 c =
-    let e = sym (told (c .before .before .before) _ (c .enum-told .given .1)) in
-    (ap (λ (w : Wrote). w .number) e, ap (λ (w : Wrote). w .numbers) e)
+returns-3 c = sym (told (c .before .before .before) _ (c .enum-told .given .1))
 
 returns-4 : tie.Need-returns-4
-returns-4 c =
-    let e = sym (told (c .before .before .before) _ (c .enum-told2 .given .1)) in
-    (ap (λ (w : Wrote). w .number) e, ap (λ (w : Wrote). w .numbers) e)
+returns-4 c = sym (told (c .before .before .before) _ (c .enum-told2 .given .1))
 
 returns-5 : tie.Need-returns-5
 returns-5 c =
     let p = c .before in
     let t = p .before .before in
-    let e = sym (told (t .before .before .before) _ (t .enum-told3 .given .1)) in
-    (ap (λ (w : Wrote). w .number) e, p .put-state .ensures ∙ ap (λ (w : Wrote). w .numbers) e)
+    ap (wrote 0) (p .put-state .ensures) ∙ sym (told (t .before .before .before) _ (t .enum-told3 .given .1))
 
 pub sled-open-spec : {M : Type 1} → statement M
 sled-open-spec =

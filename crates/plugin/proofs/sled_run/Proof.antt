@@ -15,7 +15,7 @@ use Rattle.unary.specs.declared.Answer.{Answer}
 use Rattle.unary.specs.State.{endNumber}
 use Rattle.unary.specs.Run.{Ran, runOf}
 use Rattle.plugin.specs.Numbers.{systemFrom, stateFrom, stateAfter}
-use Rattle.plugin.specs.Calls.{Call, ranCall, runLengths?, runCall}
+use Rattle.plugin.specs.Calls.{left, ranCall, runLengths?, runCall}
 use Rattle.plugin.proofs.Lists.{two}
 use Rattle.plugin.proofs.Laws.{run-shut, runs, state-five, counts-two}
 use Rattle.plugin.proofs.sled_run.Statement.{statement}
@@ -29,8 +29,7 @@ returns : tie.Need-returns
 returns c =
     let l = c .before in
     let a = start l .args in
-    let e = sym (run-shut (now (a .ins)) (now (a .outs)) (now (a .state)) (now (a .input)) (now (a .output)) (now (a .counts)) (sym (l .run-lengths .ensures) ∙ not-true _ (c .if1 .taken))) in
-    (ap (λ (w : Call). w .number) e, (ap (λ (w : Call). w .state) e, (ap (λ (w : Call). w .output) e, ap (λ (w : Call). w .counts) e)))
+    sym (run-shut (now (a .ins)) (now (a .outs)) (now (a .input)) (now (a .state)) (now (a .output)) (now (a .counts)) (sym (l .run-lengths .ensures) ∙ not-true _ (c .if1 .taken)))
 
 right : (c : tie.Else1) → let a = start (c .before) .args in runLengths? (now (a .ins)) (now (a .outs)) (now (a .state)) (now (a .counts)) ≡ true
 right c = sym (c .before .run-lengths .ensures) ∙ not-false _ (c .if1 .left)
@@ -84,16 +83,12 @@ returns-2 c =
     let l = from-run r in
     let a = start (l .before) .args in
     let old = now (a .state) in
-    let e = sym (runs (now (a .ins)) (now (a .outs)) old (now (a .input)) (now (a .output)) (now (a .counts)) (right l)) in (
-      c .end-number .ensures ∙ ap (λ (x : Answer). endNumber (x .stop)) (answer r) ∙ ap (λ (w : Call). w .number) e,
-      (
-        b .put-back .ensures ∙ ap (λ (x : Answer). stateAfter (x .stop) (x .state) old) (answer r) ∙ ap (λ (w : Call). w .state) e,
-        (
-          r .run .ensures .1 ∙ ap (λ (x : Ran). x .output) (made r) ∙ ap (λ (w : Call). w .output) e,
-          two (now (a .counts)) (two-counts l) (ap (λ (x : Answer). x .taken .0) (answer r)) (ap (λ (x : Answer). x .written .0) (answer r)) ∙ ap (λ (w : Call). w .counts) e,
-        ),
-      ),
-    )
+    let number = c .end-number .ensures ∙ ap (λ (x : Answer). endNumber (x .stop)) (answer r) in
+    let state = b .put-back .ensures ∙ ap (λ (x : Answer). stateAfter (x .stop) (x .state) old) (answer r) in
+    let output = r .run .ensures .1 ∙ ap (λ (x : Ran). x .output) (made r) in
+    let counts = two (now (a .counts)) (two-counts l) (ap (λ (x : Answer). x .taken .0) (answer r)) (ap (λ (x : Answer). x .written .0) (answer r)) in
+    let law = runs (now (a .ins)) (now (a .outs)) (now (a .input)) old (now (a .output)) (now (a .counts)) (right l) in
+    (λ i. left (number i) (state i) (output i) (counts i)) ∙ sym law
 
 pub sled-run-spec : {M : Type 1} → statement M
 sled-run-spec =

@@ -23,10 +23,8 @@ unfolding systemOf
 returns c =
     let h = c .before in
     let s = h .before .before in
-    let old = now (s .before .args .rows) in (
-      h .hand-out .ensures .0 ∙ ap (λ (t : System). handedOut (take (8 * t .count) (t .rows)) old .number) (s .system-d .ensures),
-      h .hand-out .ensures .1 ∙ ap (λ (t : System). handedOut (take (8 * t .count) (t .rows)) old .numbers) (s .system-d .ensures),
-    )
+    let old = now (s .before .args .rows) in
+    h .hand-out .ensures ∙ ap (λ (t : System). handedOut (take (8 * t .count) (t .rows)) old) (s .system-d .ensures)
 
 pub sled-system-d-spec : {M : Type 1} → statement M
 sled-system-d-spec = tie.close (tie.spec (λ c κs. search needs) hand-out-requires (λ c. search needs) returns)
