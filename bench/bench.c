@@ -20,7 +20,7 @@ static u32 proved_run(const i16 *ins, usize n, const i16 *outs, usize m, i64 *st
 
 static double now(void) {
     struct timespec t;
-    clock_gettime(1, &t);
+    clock_gettime(2, &t); /* the processor time of this program, so that others on the machine count for less */
     return (double)t.seconds + 1e-9 * (double)t.nanoseconds;
 }
 
@@ -45,10 +45,8 @@ static struct system R, B, D;
 static void leaf(i16 *row, const i16 *f, int half) {
     /* F maps (0, infinity), or (infinity, 0), onto the digit's interval */
     for (int k = 0; k < 4; k++) row[k] = f[k];
-    i16 sign = half == 0 ? 1 : -1; /* the ends 0/1 and 1/0, or 1/0 and 0/-1 */
     i16 ends[4] = {0, 1, 1, 0};
     if (half == 1) ends[0] = 1, ends[1] = 0, ends[2] = 0, ends[3] = -1;
-    (void)sign;
     for (int e = 0; e < 2; e++) {
         row[4 + 2 * e] = (i16)(f[0] * ends[2 * e] + f[1] * ends[2 * e + 1]);
         row[5 + 2 * e] = (i16)(f[2] * ends[2 * e] + f[3] * ends[2 * e + 1]);
@@ -78,7 +76,7 @@ static struct system random_16(void) {
 
 /* ---- cases */
 
-enum { LONG = 200000, ROOM = 4 * LONG };
+enum { LONG = 20000, ROOM = 64 * LONG };
 static u8 word[LONG], output[2][ROOM];
 
 struct job {
@@ -132,15 +130,11 @@ static void time_run(const char *name, const struct job *j, int rounds) {
         printf("%s: the two sides answer differently\n", name);
         wrong = 1;
     }
-    char line[160];
-    int n = 0;
-    while (name[n] != 0) line[n] = name[n], n++;
-    line[n] = 0;
     double digits = (double)counts[0][0];
     if (j->length == 1)
-        report(line, best[0], best[1], (double)j->calls * 1e-6, "million calls a second");
+        report(name, best[0], best[1], (double)j->calls * 1e-6, "million calls a second");
     else
-        report(line, best[0], best[1], digits * 1e-6, "million digits taken a second");
+        report(name, best[0], best[1], digits * 1e-6, "million digits taken a second");
     if (stops[0] != 0) printf("<!-- %s: reopened %lu times -->\n", name, stops[0]);
 }
 
@@ -152,7 +146,7 @@ static void time_admit(const char *name, const struct system *s, int rounds) {
         for (int side = 0; side < 2; side++) {
             double start = now();
             u32 total = 0;
-            for (int k = 0; k < 2000; k++) total += calls[side](s->rows, s->length);
+            for (int k = 0; k < 1000; k++) total += calls[side](s->rows, s->length);
             double time = now() - start;
             sum[side] = total;
             if (time < best[side]) best[side] = time;
@@ -161,7 +155,7 @@ static void time_admit(const char *name, const struct system *s, int rounds) {
         printf("%s: not admitted\n", name);
         wrong = 1;
     }
-    report(name, best[0], best[1], 2000 * 1e-6, "million systems a second");
+    report(name, best[0], best[1], 1000 * 1e-6, "million systems a second");
 }
 
 /* a word of digits 0 to n - 1 */
@@ -189,7 +183,7 @@ static void word_of(const struct system *s) {
 }
 
 int main(int argc, char **argv) {
-    int rounds = argc > 1 && argv[1][0] == 'q' ? 5 : 25;
+    int rounds = argc > 1 && argv[1][0] == 'q' ? 30 : 300;
     R.length = D.length = 32, B.length = 64;
     sled_system_r(R.rows, 32);
     sled_system_b(B.rows, 64);
@@ -197,23 +191,23 @@ int main(int argc, char **argv) {
     printf("| case | plain C | proved | unit | proved / plain |\n|---|---|---|---|---|\n");
     random_word(2);
     time_run("R to R, 2 1 1 2, long word", &(struct job){&R, &R, {2, 1, 1, 2}, LONG, 1}, rounds);
-    time_run("R to R, 997 -3 5 11, long word", &(struct job){&R, &R, {997, -3, 5, 11}, LONG, 1}, rounds);
-    time_run("R to R, one digit a call", &(struct job){&R, &R, {2, 1, 1, 2}, 1, 5000}, 2 * rounds);
+    time_run("R to R, 5 2 3 4, long word", &(struct job){&R, &R, {5, 2, 3, 4}, LONG, 1}, rounds);
+    time_run("R to R, one digit a call", &(struct job){&R, &R, {2, 1, 1, 2}, 1, 2000}, rounds);
     word_of(&B);
     time_run("B to B, 3 1 1 3, long word", &(struct job){&B, &B, {3, 1, 1, 3}, LONG, 1}, rounds);
-    time_run("B to B, one digit a call", &(struct job){&B, &B, {3, 1, 1, 3}, 1, 2000}, 2 * rounds);
+    time_run("B to B, one digit a call", &(struct job){&B, &B, {3, 1, 1, 3}, 1, 2000}, rounds);
     word_of(&D);
     time_run("D to B, 3 -1 0 1, long word", &(struct job){&D, &B, {3, -1, 0, 1}, LONG, 1}, rounds);
-    time_run("D to B, one digit a call", &(struct job){&D, &B, {3, -1, 0, 1}, 1, 2000}, 2 * rounds);
+    time_run("D to B, one digit a call", &(struct job){&D, &B, {3, -1, 0, 1}, 1, 2000}, rounds);
     static struct system random[6];
     for (int k = 0; k < 6; k++) random[k] = random_16();
     random_word(8);
     time_run("random 16 to random 16, long word", &(struct job){&random[0], &random[1], {2, 1, 1, 2}, LONG, 1}, rounds);
     time_run("another pair, long word", &(struct job){&random[2], &random[3], {7, 1, 2, 5}, LONG, 1}, rounds);
-    time_run("another pair, long word, again", &(struct job){&random[4], &random[5], {101, 0, 3, 100}, LONG, 1}, rounds);
-    time_run("random 16 to random 16, one digit a call", &(struct job){&random[0], &random[1], {2, 1, 1, 2}, 1, 2000}, 2 * rounds);
-    time_admit("admission of R", &R, 2 * rounds);
-    time_admit("admission of B", &B, 2 * rounds);
-    time_admit("admission of a random 16", &random[0], 2 * rounds);
+    time_run("a third pair, long word", &(struct job){&random[4], &random[5], {5, 0, 1, 3}, LONG, 1}, rounds);
+    time_run("random 16 to random 16, one digit a call", &(struct job){&random[0], &random[1], {2, 1, 1, 2}, 1, 2000}, rounds);
+    time_admit("admission of R", &R, rounds);
+    time_admit("admission of B", &B, rounds);
+    time_admit("admission of a random 16", &random[0], rounds);
     return wrong;
 }

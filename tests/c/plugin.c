@@ -191,7 +191,9 @@ static void given(const int16_t *ins, size_t n, const int16_t *outs, size_t m, c
     memcpy(&then, &now, sizeof now);
 }
 
-static uint32_t run(struct lengths n) { return sled_run(now.ins, n.ins, now.outs, n.outs, now.state, n.state, now.input, n.input, now.output, n.output, now.counts, n.counts); }
+static uint32_t run(struct lengths n) {
+    return sled_run(now.ins, n.ins, now.outs, n.outs, now.state, n.state, now.input, n.input, now.output, n.output, now.counts, n.counts);
+}
 
 static void counted(size_t taken, size_t written) {
     then.counts[0] = taken;
@@ -309,8 +311,9 @@ static void refused(const int16_t *ins, size_t n, const int16_t *outs, size_t m,
 
 static void bad_states(void) {
     const int64_t least = -0x7fffffffffffffff - 1, most = 0x7fffffffffffffff;
-    const int64_t states[][5] = {{2, 0, 0, 2, -1},         {1, 1, 1, 1, -1},         {1, 2, 2, 1, -1},         {0, 0, 0, 0, -1},          {1000000001, 0, 0, 1, -1}, {1, -1000000001, 0, 1, -1},
-                                 {1, 0, 1000000001, 1, -1}, {1, 0, 0, 1000000001, -1}, {least, 0, 0, least, -1}, {least, most, most, 1, -1}, {most, most, most, most, most}};
+    const int64_t states[][5] = {{2, 0, 0, 2, -1},           {1, 1, 1, 1, -1},           {1, 2, 2, 1, -1},           {0, 0, 0, 0, -1},
+                                 {1000000001, 0, 0, 1, -1},  {1, -1000000001, 0, 1, -1}, {1, 0, 1000000001, 1, -1},  {1, 0, 0, 1000000001, -1},
+                                 {least, 0, 0, least, -1},   {least, most, most, 1, -1}, {most, most, most, most, most}};
     const int64_t held[] = {4, 5, 16, 127, 128, 254, 255, 256, 257, 511, 512, 65536, 4294967296, 4294967295, -2, -255, -256, -257, least, least + 1, most, most - 255};
     for (size_t k = 0; k < sizeof states / sizeof *states; k++) refused(R, 32, R, 32, states[k], 12, "a bad state", (long)k);
     for (size_t k = 0; k < sizeof held / sizeof *held; k++) {
@@ -399,7 +402,7 @@ static void random_runs(int times) {
         memcpy(&then, &fresh, sizeof then);
         uint32_t plain = plain_admit(then.ins, n.ins);
         check(first == plain, "random admission", t);
-        plain = plain_run(then.ins, n.ins, then.outs, n.outs, (i64 *)then.state, n.state, then.input, n.input, then.output, n.output, (usize *)then.counts, n.counts);
+        plain = plain_run(then.ins, n.ins, then.outs, n.outs, (i64 *)then.state, n.state, then.input, n.input, then.output, n.output, then.counts, n.counts);
         settled(end, plain, "random run", t);
         if (end <= 40) seen[end]++;
     }

@@ -41,7 +41,8 @@ module _ (ins outs : List ℤ) (input : List ℕ) (old : List ℤ) (output count
   unfolding runCall
   run-shut e = rw e
 
-  pub runs : runLengths? ins outs old counts ≡ true → runCall ins outs input old output counts ≡ ranCall (runOf (systemFrom ins) (systemFrom outs) (stateFrom old) input output) old
+  pub runs : runLengths? ins outs old counts ≡ true →
+      runCall ins outs input old output counts ≡ ranCall (runOf (systemFrom ins) (systemFrom outs) (stateFrom old) input output) old
   unfolding runCall
   runs e = rw e
 

@@ -9,10 +9,12 @@ use Rattle.plugin.specs.Calls.{admitNumber, Wrote, wrote, handedOut, ope
 pub one-admission : (rows : List ℤ) (r r′ : ℕ) → r ≡ admitNumber rows → r′ ≡ admitNumber rows → r ≡ r′
 one-admission rows r r′ p q = p ∙ sym q
 
-pub one-built-in : (rows old : List ℤ) (r r′ : ℕ) (new new′ : List ℤ) → wrote r new ≡ handedOut rows old → wrote r′ new′ ≡ handedOut rows old → wrote r new ≡ wrote r′ new′
+pub one-built-in : (rows old : List ℤ) (r r′ : ℕ) (new new′ : List ℤ) →
+    wrote r new ≡ handedOut rows old → wrote r′ new′ ≡ handedOut rows old → wrote r new ≡ wrote r′ new′
 one-built-in rows old r r′ new new′ p q = p ∙ sym q
 
-pub one-opening : (m old : List ℤ) (r r′ : ℕ) (new new′ : List ℤ) → wrote r new ≡ openCall m old → wrote r′ new′ ≡ openCall m old → wrote r new ≡ wrote r′ new′
+pub one-opening : (m old : List ℤ) (r r′ : ℕ) (new new′ : List ℤ) →
+    wrote r new ≡ openCall m old → wrote r′ new′ ≡ openCall m old → wrote r new ≡ wrote r′ new′
 one-opening m old r r′ new new′ p q = p ∙ sym q
 
 -- of a run: two calls that find the same leave the same

@@ -36,7 +36,8 @@ unfolding heldFrom
 held-back Nothing b = refl
 held-back (Digit d) b = ap (λ (t : Bool). Digit (cond t 255 d)) (le-ltb 255 d b)
 
-four-back : (m : List ℤ) (h : Held) → length m ≡ 4 → heldFrom (heldNumber h) ≡ h → stateFrom (stateNumbers (record { matrix = m; held = h })) ≡ record { matrix = m; held = h }
+four-back : (m : List ℤ) (h : Held) → length m ≡ 4 → heldFrom (heldNumber h) ≡ h →
+    stateFrom (stateNumbers (record { matrix = m; held = h })) ≡ record { matrix = m; held = h }
 unfolding stateFrom stateNumbers
 four-back (a ∷ b ∷ c ∷ d ∷ []) h n e = λ i. record { matrix = a ∷ b ∷ c ∷ d ∷ []; held = e i }
 four-back [] h n e = absurd (omega arith)

@@ -1,5 +1,6 @@
 // The library for other languages: C functions over numbers and slices. include/sledhillock.h says what each promises, in a C author's words.
-// A system passes as its rows, eight numbers a digit; a state as five numbers, the matrix and the held digit or −1. A slice of the wrong length is refused by 40, and nothing is written.
+// A system passes as its rows, eight numbers a digit; a state as five numbers, the matrix and the held digit or −1.
+// A slice of the wrong length is refused by 40, and nothing is written.
 ghost use mathlib.Core.Path.{_≡_};
 ghost use mathlib.Core.List.{_++_};
 ghost use Prim.Native.Nat.{_*_, _%_, _≤_};
@@ -233,7 +234,8 @@ pub extern "C" fn sled_run(
     output: &mut [u8],
     counts: &mut [usize],
 ) -> u32
-    ensures { λ r. ⌜ left r (now (state .exit)) (now (output .exit)) (now (counts .exit)) ≡ runCall (now (ins .entry)) (now (outs .entry)) (now (input .entry)) (now (state .entry)) (now (output .entry)) (now (counts .entry)) ⌝ }
+    ensures { λ r. ⌜ left r (now (state .exit)) (now (output .exit)) (now (counts .exit)) ≡
+        runCall (now (ins .entry)) (now (outs .entry)) (now (input .entry)) (now (state .entry)) (now (output .entry)) (now (counts .entry)) ⌝ }
 {
     if !run_lengths(ins.len(), outs.len(), state.len(), counts.len()) {
         return WRONG_LENGTH;

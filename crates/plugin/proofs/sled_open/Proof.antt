@@ -36,7 +36,8 @@ law o =
     let l = f1 .before in
     let a = start o .args in
     let m = entries (ok-back (f1 .t9 .given)) (ok-back (f2 .t11 .given)) (ok-back (f3 .t13 .given)) (ok-back (f4 .t15 .given)) in
-    opens (now (a .matrix)) (now (a .state)) (l .before .if1 .left) (l .if2 .left) ∙ sym (ap (λ (r : Start). opened r (now (a .state))) (o .«open» .ensures ∙ ap openOf m))
+    opens (now (a .matrix)) (now (a .state)) (l .before .if1 .left) (l .if2 .left)
+    ∙ sym (ap (λ (r : Start). opened r (now (a .state))) (o .«open» .ensures ∙ ap openOf m))
 
 told : (o : tie.After-open) (v : Opening) → o .«open» .result .opening ≡ v → let a = start o .args in
     openCall (now (a .matrix)) (now (a .state)) ≡ startNumbers v (o .«open» .result) (now (a .state))

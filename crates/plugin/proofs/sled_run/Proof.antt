@@ -29,7 +29,8 @@ returns : tie.Need-returns
 returns c =
     let l = c .before in
     let a = start l .args in
-    sym (run-shut (now (a .ins)) (now (a .outs)) (now (a .input)) (now (a .state)) (now (a .output)) (now (a .counts)) (sym (l .run-lengths .ensures) ∙ not-true _ (c .if1 .taken)))
+    let shut = sym (l .run-lengths .ensures) ∙ not-true _ (c .if1 .taken) in
+    sym (run-shut (now (a .ins)) (now (a .outs)) (now (a .input)) (now (a .state)) (now (a .output)) (now (a .counts)) shut)
 
 right : (c : tie.Else1) → let a = start (c .before) .args in runLengths? (now (a .ins)) (now (a .outs)) (now (a .state)) (now (a .counts)) ≡ true
 right c = sym (c .before .run-lengths .ensures) ∙ not-false _ (c .if1 .left)
@@ -61,7 +62,9 @@ slice-write-counts-2 c = simp length-set (omega (arith, two-counts (from-run (fr
 
 -- the run that was made, as the definitions have it
 abbrev ran : tie.After-run → Ran
-ran r = let a = start (from-run r .before) .args in runOf (systemFrom (now (a .ins))) (systemFrom (now (a .outs))) (stateFrom (now (a .state))) (now (a .input)) (now (a .output))
+ran r =
+    let a = start (from-run r .before) .args in
+    runOf (systemFrom (now (a .ins))) (systemFrom (now (a .outs))) (stateFrom (now (a .state))) (now (a .input)) (now (a .output))
 
 made : (r : tie.After-run) → let f = r .before .before in let a = start (from-run r .before) .args in
     runOf (f .before .system-from .result) (f .system-from2 .result) (f .before .before .state-from .result) (now (a .input)) (now (a .output)) ≡ ran r
