@@ -1,4 +1,5 @@
 -- Digit systems, as theorems: what each answer of `admit` says, and the laws that the functions' proofs and the crates above use.
+--   Words                     how far from 0 a number lies that was read from an array
 --   First                     the first number that passes a test: every search's laws
 --   RowSays, AdmittedSays     each refusal number is given exactly when document 01's sentence holds
 --   Cover, CoverFull, CoverGap, CoverTests, Greatest   the test of refusal 10 says that every point is covered, and hands a point where not

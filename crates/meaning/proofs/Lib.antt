@@ -1,10 +1,12 @@
 -- Demand 3, "The meaning", as theorems. In the order in which they rest on each other: what the product and the numbers do when a digit is appended (Products); what
--- opening and a step did (Steps); the product at every moment (SessionProduct); the numbers at every moment (SessionNumbers); a run goes from moment to moment
--- (RunMoments); both claims for sessions, and the bridge to the code (Sessions); worked cases of the premise (Premise).
+-- opening and each step keep (Steps); the product at every moment, with its scale named (SessionProduct); the numbers at every moment (SessionNumbers); the steps of a
+-- run are steps by the rules, and it goes from moment to moment (SessionRuns); both claims for sessions, and the bridge to the code (Sessions); worked cases of the
+-- premise (Premise) and of sessions (WorkedSession).
 pub mod Products
 pub mod Steps
 pub mod SessionProduct
 pub mod SessionNumbers
-pub mod RunMoments
+pub mod SessionRuns
 pub mod Sessions
 pub mod Premise
+pub mod WorkedSession

@@ -34,7 +34,7 @@ abbrev pub D : List ℤ
 D = systemOf rowsD .rows
 
 -- the test of `closed?`, where it computes
-computed : {w : List ℤ} {z : Pair} → T (closed? w z) → Closed w z
+pub computed : {w : List ℤ} {z : Pair} → T (closed? w z) → Closed w z
 unfolding closed?
 computed t = record { not-below = record { le = t } }
 

@@ -8,12 +8,14 @@ use mathlib.Core.Path.{_≡_, refl, sym, _∙_, ap, subst}
 use mathlib.Core.List.{List, [], _∷_, _++_}
 use mathlib.Core.Logic.{_↔_}
 use Prim.Native.Nat.{ℕ}
-use lib.IntN.{ℤ}
-use Rattle.plane.specs.Plane.{Pair, SamePoint, apply, multiplyOf, Closed}
+use lib.IntN.{ℤ, _*ℤ_}
+use Rattle.whole.proofs.Polynomial.{_⊗_}
+use Rattle.whole.proofs.Law.{#, _≗_, law}
+use Rattle.plane.specs.Plane.{Pair, SamePoint, apply, determinantOf, multiplyOf, Closed}
 use Rattle.plane.proofs.Identities.{apply-identity, apply-multiply, multiply-assoc, multiply-identity-left, multiply-identity-right}
 use Rattle.plane.proofs.Points.{same-moves, closed-same}
 use Rattle.digits.specs.System.{transformationOf, intervalOf}
-use Rattle.meaning.specs.Names.{namedFrom, productOf, EachInItsInterval}
+use Rattle.meaning.specs.Names.{namedFrom, productOf, determinantsOf, EachInItsInterval}
 
 module _ (rows : List ℤ) where
   -- ---- one more digit at the end
@@ -24,6 +26,13 @@ module _ (rows : List ℤ) where
   product-append (b ∷ digits) a =
       ap (multiplyOf (transformationOf rows b)) (product-append digits a) ∙
       sym (multiply-assoc (transformationOf rows b) (productOf rows digits) (transformationOf rows a))
+
+  pub determinants-append : (digits : List ℕ) (a : ℕ) → determinantsOf rows (digits ++ a ∷ []) ≡ determinantsOf rows digits *ℤ determinantOf (transformationOf rows a)
+  unfolding determinantsOf
+  determinants-append [] a = law 1 (λ d. d ⊗ # 1 ≗ # 1 ⊗ d) tt (determinantOf (transformationOf rows a))
+  determinants-append (b ∷ digits) a =
+      ap (λ (z : ℤ). determinantOf (transformationOf rows b) *ℤ z) (determinants-append digits a) ∙
+      law 3 (λ c k d. c ⊗ (k ⊗ d) ≗ c ⊗ k ⊗ d) tt (determinantOf (transformationOf rows b)) (determinantsOf rows digits) (determinantOf (transformationOf rows a))
 
   pub named-append : (digits : List ℕ) (a : ℕ) (t : Pair) → namedFrom rows (digits ++ a ∷ []) t ≡ namedFrom rows digits (apply (transformationOf rows a) t)
   unfolding namedFrom

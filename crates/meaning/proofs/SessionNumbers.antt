@@ -10,7 +10,6 @@
 --   absorbed: what is claimed at t is what was claimed before at F_h(t), since X'(t) is X(F_h(t)), as a point.
 -- That X(t) is the number follows from the product: p·(P·X) = q·(M·Q), applied to t.
 use mathlib.Core.Path.{sym, subst}
-use mathlib.Core.Bool.{Bool}
 use mathlib.Core.List.{List, [], _∷_, _++_}
 use Prim.Native.Nat.{ℕ}
 use lib.IntN.{ℤ, pos}
@@ -22,18 +21,18 @@ use Rattle.plane.proofs.Identities.{apply-multiply}
 use Rattle.plane.proofs.Moves.{keeps-multiply, keeps-pseudoinverse, closed-moves, interval-moves, point-moves}
 use Rattle.plane.proofs.Points.{same-sym, same-trans, same-moves, same-redone, same-scaled, closed-same}
 use Rattle.plane.proofs.Cancelling.{cancel-says}
-use Rattle.plane.proofs.Inclusion.{closed-included}
+use Rattle.plane.proofs.Inclusion.{closed-included, says-included}
 use Rattle.digits.specs.System.{transformationOf, intervalOf}
 use Rattle.digits.specs.Admitted.{DigitsBelow}
 use Rattle.unary.specs.declared.Held.{Held}
 use Rattle.unary.specs.declared.State.{State}
 use Rattle.unary.specs.Step.{Systems}
-use Rattle.unary.proofs.StepSays.{Gives}
 use Rattle.meaning.specs.Names.{namedFrom, productOf, EachInItsInterval, HeldInItsInterval, UpToScale}
+use Rattle.meaning.specs.Steps.{givenOut, Giving}
 use Rattle.meaning.specs.Session.{Moment, loaded, gave, took-in, Numbers}
 use Rattle.meaning.proofs.Products.{each-append, each-same, product-names}
-use Rattle.meaning.proofs.Steps.{step-did, absorb-did, gave-includes}
-use Rattle.meaning.proofs.SessionProduct.{moment-keeps, held-below, held-keeps, output-keeps, moment-product}
+use Rattle.meaning.proofs.Steps.{Sound, held-below, digit-keeps}
+use Rattle.meaning.proofs.SessionProduct.{moment-sound, moment-product}
 
 -- ---- the same points: what "gave" and "absorbed" do to X(t)
 
@@ -52,43 +51,44 @@ scale-same {a} {b} s t =
 
 -- ---- along the steps
 
-module _ (y : Systems) (m : List ℤ) (inputs : DigitsBelow (y .in-rows) (y .ins)) (outputs : DigitsBelow (y .out-rows) (y .outs)) where
-  -- the claim, of the output digits and a state
-  abbrev Claim : List ℕ → Pair → State → Type 0
-  Claim given t s = EachInItsInterval (y .out-rows) given (apply (s .matrix) t)
+-- the claim, of the output digits and a state; the premise, of the held digit
+abbrev Claim : Systems → List ℕ → Pair → State → Type 0
+Claim y given t s = EachInItsInterval (y .out-rows) given (apply (s .matrix) t)
 
-  -- the premise, of the held digit
-  abbrev HeldIn : Pair → Held → Type 0
-  HeldIn t held = HeldInItsInterval (y .in-rows) held t
+abbrev HeldIn : Systems → Pair → Held → Type 0
+HeldIn y t held = HeldInItsInterval (y .in-rows) held t
 
+module _ {y : Systems} (inputs : DigitsBelow (y .in-rows) (y .ins)) (outputs : DigitsBelow (y .out-rows) (y .outs)) where
   -- X(t) lies in the closed interval of the digit that is given out
-  gave-closed : {absorbed given : List ℕ} {s u : State} {room : Bool} {b : ℕ} → Moment y m absorbed given s → (g : Gives y s room b u) → (t : Pair) →
+  gave-closed : {b : ℕ} {s u : State} → Sound y s → (g : Giving y b s u) → (t : Pair) →
       Closed (intervalOf (y .in-rows) (g .held)) t → Closed (intervalOf (y .out-rows) b) (apply (s .matrix) t)
-  gave-closed {s = s} {b = b} moment g t c =
-      let k = moment-keeps y m inputs outputs moment in
-      closed-included (interval-moves k (inputs (g .held) (held-below y m inputs outputs moment (g .holds)) .interval)) (outputs b (g .digit) .interval)
-      (gave-includes g) (apply (s .matrix) t) (closed-moves k c)
+  gave-closed {b} {s} sound g t c =
+      let image = interval-moves (sound .keeps) (inputs (g .held) (held-below sound (g .holds)) .interval) in
+      let into = outputs b (g .digit) .interval in
+      closed-included image into (says-included image into (g .includes)) (apply (s .matrix) t) (closed-moves (sound .keeps) c)
 
+module _ {y : Systems} {m : List ℤ} (inputs : DigitsBelow (y .in-rows) (y .ins)) (outputs : DigitsBelow (y .out-rows) (y .outs)) where
   pub moment-intervals : {absorbed given : List ℕ} {s : State} → Moment y m absorbed given s → (t : Pair) →
       EachInItsInterval (y .in-rows) absorbed t → HeldInItsInterval (y .in-rows) (s .held) t → EachInItsInterval (y .out-rows) given (apply (s .matrix) t)
   unfolding EachInItsInterval
-  moment-intervals (Moment.opened e) t each held = tt
-  moment-intervals (loaded {given = given} {s} moment next room e) t each held =
-      let did = step-did y s next room e in
-      subst (Claim given t) (sym (did .becomes)) (moment-intervals moment t each (subst (HeldIn t) (sym (did .free)) tt))
-  moment-intervals (gave {given = given} {s} moment next room b e) t each held =
-      let did = step-did y s next room e in
-      let still : HeldIn t (s .held) = subst (λ (u : State). HeldIn t (u .held)) (did .becomes) held in
-      let same = gave-same (transformationOf (y .out-rows) b) (s .matrix) t (output-keeps y m inputs outputs b (did .digit)) (moment-keeps y m inputs outputs moment) in
-      subst (Claim (given ++ b ∷ []) t) (sym (did .becomes))
-      (each-append (y .out-rows) given b (apply (cancelOf (multiplyOf (pseudoinverseOf (transformationOf (y .out-rows) b)) (s .matrix))) t) .1
-      (each-same (y .out-rows) given same (moment-intervals moment t each still), closed-same same (gave-closed moment did t (subst (HeldIn t) (did .holds) still))))
-  moment-intervals (took-in {absorbed} {given} {s} moment next room a h e) t each held =
+  moment-intervals (Moment.opened o) t each held = tt
+  moment-intervals (loaded {given = given} moment a l) t each held =
+      subst (Claim y given t) (sym (l .becomes)) (moment-intervals moment t each (subst (HeldIn y t) (sym (l .free)) tt))
+  moment-intervals (gave {given = given} {s} moment b g) t each held =
+      let sound = moment-sound inputs outputs moment in
+      let still : HeldIn y t (s .held) = subst (λ (u : State). HeldIn y t (u .held)) (g .becomes) held in
+      let same = gave-same (transformationOf (y .out-rows) b) (s .matrix) t (digit-keeps (y .out-rows) outputs (g .digit)) (sound .keeps) in
+      let inside = gave-closed inputs outputs sound g t (subst (HeldIn y t) (g .holds) still) in
+      subst (Claim y (given ++ b ∷ []) t) (sym (g .becomes))
+      (each-append (y .out-rows) given b (apply (cancelOf (givenOut y b s)) t) .1
+      (each-same (y .out-rows) given same (moment-intervals moment t each still), closed-same same inside))
+  moment-intervals (took-in {absorbed} {given} {s} moment a h) t each held =
+      let sound = moment-sound inputs outputs moment in
       let f = transformationOf (y .in-rows) a in
       let before = each-append (y .in-rows) absorbed a t .0 each in
-      subst (Claim given t) (sym (absorb-did y s next room a h e))
-      (each-same (y .out-rows) given (cancelled-same (s .matrix) f t (moment-keeps y m inputs outputs moment) (held-keeps y m inputs outputs moment h))
-      (moment-intervals moment (apply f t) (before .0) (subst (HeldIn (apply f t)) (sym h) (before .1))))
+      subst (Claim y given t) (sym (h .becomes))
+      (each-same (y .out-rows) given (cancelled-same (s .matrix) f t (sound .keeps) (digit-keeps (y .in-rows) inputs (held-below sound (h .holds))))
+      (moment-intervals moment (apply f t) (before .0) (subst (HeldIn y (apply f t)) (sym (h .holds)) (before .1))))
 
   -- X(t) is the number named by the output still to come
   pub moment-named : {absorbed given : List ℕ} {s : State} → Moment y m absorbed given s → (t : Pair) →
@@ -100,12 +100,12 @@ module _ (y : Systems) (m : List ℤ) (inputs : DigitsBelow (y .in-rows) (y .ins
         product-names (y .out-rows) given (apply (s .matrix) t),
         product-names (y .in-rows) absorbed t,
       )
-      at (scale-same (moment-product y m inputs outputs moment) t)
+      at (scale-same (moment-product inputs outputs moment) t)
 
   pub moment-numbers : {absorbed given : List ℕ} {s : State} → Moment y m absorbed given s → (t : Pair) → Point t →
       EachInItsInterval (y .in-rows) absorbed t → HeldInItsInterval (y .in-rows) (s .held) t → Numbers y m absorbed given s t
   moment-numbers moment t point each held = record {
-    still-to-come = point-moves (moment-keeps y m inputs outputs moment) point;
+    still-to-come = point-moves (moment-sound inputs outputs moment .keeps) point;
     same-number = moment-named moment t;
     each-in-its-interval = moment-intervals moment t each held;
   }

@@ -1,5 +1,5 @@
 -- The two theorems of demand 3, for sessions: `session-product` and `session-numbers` between two calls, `call-product` and `call-numbers` between two steps of one
--- call. What they say is written out in specs/Session.antt (`ProductHolds`, `NumbersHold`).
+-- call. What they say is written out in specs/Session.antt (`ProductHolds`, `NumbersHold`); `session-scale` is the first with its scale named (`ScaleNamed`).
 -- The argument: each call's state is the next call's, so a session is one list of steps. It opens at a moment, a run goes from moment to moment, and a refused run
 -- changes nothing; so every session stands at a moment (`session-moment`), of which the two claims are proved. The absorbed digits are the bytes taken without the
 -- held one; there is one such list, and no other.
@@ -17,11 +17,11 @@ use Rattle.unary.specs.declared.State.{State}
 use Rattle.unary.specs.declared.Answer.{Answer}
 use Rattle.unary.specs.Run.{runBy, left, stepsOf, refusalOf, judgedOf, systems, runOf}
 use Rattle.meaning.specs.Names.{productOf, EachInItsInterval, UpToScale}
-use Rattle.meaning.specs.Session.{Session, Moment, held, Numbers, ProductHolds, NumbersHold, During}
+use Rattle.meaning.specs.Session.{Session, Moment, held, Numbers, ProductHolds, NumbersHold, During, ScaleNamed}
 use Rattle.meaning.proofs.Steps.{opened-did}
-use Rattle.meaning.proofs.SessionProduct.{moment-product}
+use Rattle.meaning.proofs.SessionProduct.{moment-scale, moment-product}
 use Rattle.meaning.proofs.SessionNumbers.{moment-numbers}
-use Rattle.meaning.proofs.RunMoments.{Reached, run-reaches}
+use Rattle.meaning.proofs.SessionRuns.{Reached, run-reaches}
 
 module _ {a b : System} {m : List ℤ} where
   -- ---- "on two admitted systems"
@@ -36,22 +36,30 @@ module _ {a b : System} {m : List ℤ} where
   begins : {taken given : List ℕ} {s : State} → Reached (systems a b) m taken given s → Reached (systems a b) m (taken ++ []) (given ++ []) s
   begins r = simp append-nil r
 
-  call-reached : {taken given : List ℕ} {s : State} → Reached (systems a b) m taken given s → (input output : List ℕ) (number : ℕ) →
+  steps-reached : {taken given : List ℕ} {s : State} → Session a b m taken given s → Reached (systems a b) m taken given s → (input output : List ℕ) (k : ℕ) →
+      During (Reached (systems a b) m) taken given input (runBy (systems a b) input k s 0 output 0)
+  steps-reached {taken} {given} {s} session r input output k =
+      let admitted = session-admitted session in
+      run-reaches (systems a b) m (admitted .0 .digits) (admitted .1 .digits) taken given input k s 0 output 0 (begins r)
+
+  call-reached : {taken given : List ℕ} {s : State} → Session a b m taken given s → Reached (systems a b) m taken given s → (input output : List ℕ) (number : ℕ) →
       During (Reached (systems a b) m) taken given input (judgedOf (systems a b) s input output number)
   unfolding stepsOf
-  call-reached {taken} {given} {s} r input output zero = run-reaches (systems a b) m taken given input (suc (left input s 0 output 0)) s 0 output 0 (begins r)
-  call-reached r input output (suc number) = begins r
+  call-reached {s = s} session r input output zero = steps-reached session r input output (suc (left input s 0 output 0))
+  call-reached session r input output (suc number) = begins r
 
   pub session-moment : {taken given : List ℕ} {s : State} → Session a b m taken given s → Reached (systems a b) m taken given s
   unfolding runOf
   session-moment (Session.opened i o e) =
-      record { absorbed = []; moment = Moment.opened e; all-taken = ap (λ (s : State). held (s .held)) (opened-did m e .becomes) }
-  session-moment (Session.called {s = s} session input output) = call-reached (session-moment session) input output (refusalOf (systems a b) s)
+      let o = opened-did m e in
+      record { absorbed = []; moment = Moment.opened o; all-taken = ap (λ (s : State). held (s .held)) (o .becomes) }
+  session-moment (Session.called {s = s} session input output) =
+      call-reached session (session-moment session) input output (refusalOf (systems a b) s)
 
   -- after k steps of a call, wherever it would go on to
   pub call-moment : {taken given : List ℕ} {s : State} → Session a b m taken given s → (input output : List ℕ) (k : ℕ) →
       During (Reached (systems a b) m) taken given input (runBy (systems a b) input k s 0 output 0)
-  call-moment {taken} {given} {s} session input output k = run-reaches (systems a b) m taken given input k s 0 output 0 (begins (session-moment session))
+  call-moment session = steps-reached session (session-moment session)
 
   -- ---- the two claims, wherever a session is at a moment
 
@@ -60,14 +68,14 @@ module _ {a b : System} {m : List ℤ} where
   reached-product {given = given} {s} admitted r absorbed e =
       subst (λ (l : List ℕ). UpToScale (multiplyOf (productOf (b .rows) given) (s .matrix)) (multiplyOf m (productOf (a .rows) l)))
       (append-cancel-right (r .absorbed) absorbed (held (s .held)) (r .all-taken ∙ sym e))
-      (moment-product (systems a b) m (admitted .0 .digits) (admitted .1 .digits) (r .moment))
+      (moment-product (admitted .0 .digits) (admitted .1 .digits) (r .moment))
 
   reached-numbers : {taken given : List ℕ} {s : State} → Admissible (a .count) (a .rows) × Admissible (b .count) (b .rows) → Reached (systems a b) m taken given s →
       NumbersHold a b m taken given s
   reached-numbers {given = given} {s} admitted r absorbed e t point each first =
       let only = append-cancel-right absorbed (r .absorbed) (held (s .held)) (e ∙ sym (r .all-taken)) in
       subst (λ (l : List ℕ). Numbers (systems a b) m l given s t) (sym only)
-      (moment-numbers (systems a b) m (admitted .0 .digits) (admitted .1 .digits) (r .moment) t point
+      (moment-numbers (admitted .0 .digits) (admitted .1 .digits) (r .moment) t point
       (subst (λ (l : List ℕ). EachInItsInterval (a .rows) l t) only each) first)
 
   -- between two calls
@@ -76,6 +84,10 @@ module _ {a b : System} {m : List ℤ} where
 
   pub session-numbers : {taken given : List ℕ} {s : State} → Session a b m taken given s → NumbersHold a b m taken given s
   session-numbers session = reached-numbers (session-admitted session) (session-moment session)
+
+  -- the first again, with the scale named by the steps that the session made
+  pub session-scale : {taken given : List ℕ} {s : State} (session : Session a b m taken given s) → ScaleNamed (session-moment session .moment)
+  session-scale session = moment-scale (session-moment session .moment)
 
   -- between two steps of one call: after any number k of them
   pub call-product : {taken given : List ℕ} {s : State} → Session a b m taken given s → (input output : List ℕ) (k : ℕ) →

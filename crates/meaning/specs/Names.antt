@@ -2,8 +2,8 @@
 use mathlib.Core.Path.{_≡_}
 use mathlib.Core.List.{List, [], _∷_}
 use Prim.Native.Nat.{ℕ, _<_}
-use lib.IntN.{ℤ, pos}
-use Rattle.plane.specs.Plane.{Pair, apply, multiplyOf, Closed}
+use lib.IntN.{ℤ, pos, _*ℤ_}
+use Rattle.plane.specs.Plane.{Pair, apply, determinantOf, multiplyOf, Closed}
 use Rattle.plane.specs.Scale.{scaleOf, identityOf}
 use Rattle.digits.specs.System.{transformationOf, intervalOf}
 use Rattle.unary.specs.declared.Held.{Held}
@@ -18,6 +18,11 @@ namedFrom rows (a ∷ digits) t = apply (transformationOf rows a) (namedFrom row
 unfoldable pub productOf : List ℤ → List ℕ → List ℤ
 productOf rows [] = identityOf
 productOf rows (a ∷ digits) = multiplyOf (transformationOf rows a) (productOf rows digits)
+
+-- the product of their determinants
+unfoldable pub determinantsOf : List ℤ → List ℕ → ℤ
+determinantsOf rows [] = pos 1
+determinantsOf rows (a ∷ digits) = determinantOf (transformationOf rows a) *ℤ determinantsOf rows digits
 
 -- "the number named from each digit on lies in that digit's closed interval", where t is named by what follows the digits
 unfoldable pub EachInItsInterval : List ℤ → List ℕ → Pair → Type 0

@@ -1,24 +1,24 @@
--- What a session is: opened for a matrix on two admitted systems, then called as often as one likes, each time with any input and any room, and with the state that the
--- call before handed back. And, finer, each moment of it, also between two steps of one call.
+-- What a session is: opened for a matrix on two admitted systems, then called as often as one likes, each time with any input and any room, and with the state that
+-- the call before handed back. And, finer, each moment of it, also between two steps of one call: after any number of steps by the rules of Steps.antt.
 use mathlib.Core.Path.{_≡_}
-use mathlib.Core.Bool.{Bool}
 use mathlib.Core.List.{List, [], _∷_, _++_}
-use Prim.Native.Nat.{ℕ}
+use Prim.Native.Nat.{ℕ, _*_}
 use lib.ListN.{take}
-use lib.IntN.{ℤ}
-use Rattle.plane.specs.Plane.{Pair, Point, SamePoint, apply, multiplyOf}
+use lib.IntN.{ℤ, pos}
+use Rattle.whole.specs.Divisor.{gcd4}
+use Rattle.plane.specs.Plane.{Pair, Point, SamePoint, apply, multiplyOf, cancelOf}
+use Rattle.plane.specs.Scale.{scaleOf}
 use Rattle.digits.specs.Admitted.{Admissible}
 use Rattle.digits.specs.declared.System.{System}
 use Rattle.unary.specs.declared.Held.{Held}
 use Rattle.unary.specs.declared.Held.the-variants.{Nothing, Digit}
 use Rattle.unary.specs.declared.State.{State}
-use Rattle.unary.specs.declared.Next.{Next}
-use Rattle.unary.specs.declared.Kind.the-variants.{Load, Give, Absorb}
 use Rattle.unary.specs.declared.Opening.the-variants.{Opens}
 use Rattle.unary.specs.State.{openOf}
-use Rattle.unary.specs.Step.{Systems, stepOf}
+use Rattle.unary.specs.Step.{Systems}
 use Rattle.unary.specs.Run.{Ran, systems, runOf}
-use Rattle.meaning.specs.Names.{namedFrom, productOf, EachInItsInterval, HeldInItsInterval, UpToScale}
+use Rattle.meaning.specs.Names.{namedFrom, productOf, determinantsOf, EachInItsInterval, HeldInItsInterval, UpToScale}
+use Rattle.meaning.specs.Steps.{Opened, Loading, givenOut, Giving, takenIn, Absorbing}
 
 -- `Session a b m taken given s`: a session on the input system a and the output system b, opened for m, that has taken these bytes, given out these digits and is in
 -- state s
@@ -35,18 +35,30 @@ abbrev pub held : Held → List ℕ
 held Nothing = []
 held (Digit a) = a ∷ []
 
--- `Moment y m absorbed given s`: after any number of steps from the opened state, each with any next byte or none, with room or without
+-- `Moment y m absorbed given s`: after any number of steps from the opened state, each of one of the three kinds. A digit that is given out stands behind those given
+-- out before it, and a digit that is absorbed behind those absorbed before it.
 pub data Moment (y : Systems) (m : List ℤ) : List ℕ → List ℕ → State → Type 0 where
-  opened : openOf m .opening ≡ Opens → Moment y m [] [] (openOf m .state)
-  loaded : {absorbed given : List ℕ} {s : State} → Moment y m absorbed given s → (next : Next) (room : Bool) →
-      stepOf y s next room .kind ≡ Load → Moment y m absorbed given (stepOf y s next room .state)
-  gave : {absorbed given : List ℕ} {s : State} → Moment y m absorbed given s → (next : Next) (room : Bool) (b : ℕ) →
-      stepOf y s next room .kind ≡ Give b → Moment y m absorbed (given ++ b ∷ []) (stepOf y s next room .state)
-  took-in : {absorbed given : List ℕ} {s : State} → Moment y m absorbed given s → (next : Next) (room : Bool) (a : ℕ) →
-      s .held ≡ Digit a → stepOf y s next room .kind ≡ Absorb → Moment y m (absorbed ++ a ∷ []) given (stepOf y s next room .state)
+  opened : {s : State} → Opened m s → Moment y m [] [] s
+  loaded : {absorbed given : List ℕ} {s t : State} → Moment y m absorbed given s → (a : ℕ) → Loading y a s t → Moment y m absorbed given t
+  gave : {absorbed given : List ℕ} {s t : State} → Moment y m absorbed given s → (b : ℕ) → Giving y b s t → Moment y m absorbed (given ++ b ∷ []) t
+  took-in : {absorbed given : List ℕ} {s t : State} → Moment y m absorbed given s → (a : ℕ) → Absorbing y a s t → Moment y m (absorbed ++ a ∷ []) given t
 
--- What is said of the numbers. "With t the number named by the input not yet absorbed, X(t) is named by the output still to come": X(t) is a point; in front of it the
--- output digits name what the job's matrix makes of the number that the input names; and the number named from each output digit on lies in that digit's closed interval.
+-- The scale. The product of the divisors, one for each step that gave a digit out or absorbed one: the greatest common divisor by which its matrix was cancelled.
+unfoldable pub divisorsOf : {y : Systems} {m : List ℤ} {absorbed given : List ℕ} {s : State} → Moment y m absorbed given s → ℕ
+divisorsOf (Moment.opened o) = 1
+divisorsOf (loaded moment a l) = divisorsOf moment
+divisorsOf {y} (gave {s = s} moment b g) = divisorsOf moment * gcd4 (givenOut y b s)
+divisorsOf {y} (took-in {s = s} moment a h) = divisorsOf moment * gcd4 (takenIn y a s)
+
+-- The product of the divisors times (output product times state) equals the product of the output determinants times (M cancelled times input product).
+abbrev pub ScaleNamed : {y : Systems} {m : List ℤ} {absorbed given : List ℕ} {s : State} → Moment y m absorbed given s → Type 0
+ScaleNamed {y} {m} {absorbed} {given} {s} moment =
+    scaleOf (pos (divisorsOf moment)) (multiplyOf (productOf (y .out-rows) given) (s .matrix)) ≡
+    scaleOf (determinantsOf (y .out-rows) given) (multiplyOf (cancelOf m) (productOf (y .in-rows) absorbed))
+
+-- What is said of the numbers. "With t the number named by the input not yet absorbed, X(t) is named by the output still to come": X(t) is a point; in front of it
+-- the output digits name what the job's matrix makes of the number that the input names; and the number named from each output digit on lies in that digit's closed
+-- interval.
 pub record Numbers (y : Systems) (m : List ℤ) (absorbed given : List ℕ) (s : State) (t : Pair) : Type 0 where
   pub still-to-come : Point (apply (s .matrix) t)
   pub same-number : SamePoint (namedFrom (y .out-rows) given (apply (s .matrix) t)) (apply m (namedFrom (y .in-rows) absorbed t))
@@ -55,15 +67,14 @@ pub record Numbers (y : Systems) (m : List ℤ) (absorbed given : List ℕ) (s :
 -- The two claims, of a session on the systems a and b for the matrix m where these bytes are taken, these digits are given out and the state is s. The absorbed
 -- digits are the bytes taken without the held one; there is always such a list (`session-moment`), and no other.
 --
--- The product of the output digits' transformations times the state equals, up to a positive scale, the job's matrix times the product of the absorbed digits'
--- transformations.
+-- "However often a session is called, (product of output digits)·state equals, up to a positive scale, (job's matrix)·(product of absorbed digits)."
 abbrev pub ProductHolds : System → System → List ℤ → List ℕ → List ℕ → State → Type 0
 ProductHolds a b m taken given s =
     (absorbed : List ℕ) → absorbed ++ held (s .held) ≡ taken →
     UpToScale (multiplyOf (productOf (b .rows) given) (s .matrix)) (multiplyOf m (productOf (a .rows) absorbed))
 
--- For every point t, a fraction or infinity, as the number named by the input not yet absorbed, the held digit included: if the number named from each absorbed digit
--- on, and from the held one on, lies in that digit's closed interval, then what `Numbers` says.
+-- "If the number named from each absorbed digit on, and from the held one on, lies in that digit's closed interval, so does the number named from each output digit
+-- on." For every point t, a fraction or infinity, as the number named by the input not yet absorbed, the held digit included; then all that `Numbers` says.
 abbrev pub NumbersHold : System → System → List ℤ → List ℕ → List ℕ → State → Type 0
 NumbersHold a b m taken given s =
     (absorbed : List ℕ) → absorbed ++ held (s .held) ≡ taken →

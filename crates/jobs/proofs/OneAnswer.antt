@@ -1,0 +1,30 @@
+-- "That no second answer fits is itself proved": the promise of `read` is an equation, so that two answers which keep it are the same; and no file both reads as a job and is
+-- refused, or is refused in two ways.
+use mathlib.Core.Path.{_≡_, sym, ap, _∙_}
+use mathlib.Core.List.{List}
+use Prim.Native.Nat.{ℕ}
+use native.Mathlib.Omega.{arith}
+use Rattle.jobs.specs.declared.Verdict.{Verdict}
+use Rattle.jobs.specs.declared.Verdict.the-variants.{Reads, Refused}
+use Rattle.jobs.specs.declared.Reading.{Reading}
+use Rattle.jobs.specs.Layout.{Contents}
+use Rattle.jobs.specs.Reading.{readOf, refused}
+use Rattle.jobs.specs.Reads.{readingOf, ReadsAs}
+use Rattle.jobs.specs.Refuses.{Refuses}
+use Rattle.jobs.proofs.ReadsExactly.{refuses-read}
+
+pub one-answer : (file : List ℕ) (r r′ : Reading) → r ≡ readOf file → r′ ≡ readOf file → r ≡ r′
+one-answer file r r′ p q = p ∙ sym q
+
+reads-not-refused : {number section : ℕ} → Reads ≡ Refused number section → ⊥
+reads-not-refused e = let z : _≡_ {A = ℕ} 0 1 = cc in omega arith
+
+pub not-both : (file : List ℕ) {c : Contents} {number section : ℕ} → ReadsAs file c → Refuses file number section → ⊥
+unfolding readingOf
+not-both file {c} {number} {section} p r = reads-not-refused (ap (λ (a : Reading). a .verdict) (sym (p .answer) ∙ refuses-read file number section r))
+
+refused-same : {n s n′ s′ : ℕ} → Refused n s ≡ Refused n′ s′ → (n ≡ n′) × (s ≡ s′)
+refused-same e = (cc, cc)
+
+pub one-refusal : (file : List ℕ) {n s n′ s′ : ℕ} → Refuses file n s → Refuses file n′ s′ → (n ≡ n′) × (s ≡ s′)
+one-refusal file {n} {s} {n′} {s′} p q = refused-same (ap (λ (a : Reading). a .verdict) (sym (refuses-read file n s p) ∙ refuses-read file n′ s′ q))

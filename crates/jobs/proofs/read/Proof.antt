@@ -1,0 +1,50 @@
+-- `jobs::read` meets its contract: the input system's number, or what the output system behind it decides.
+use borrow.Author.Needs.{needs}
+use mathlib.Core.Path.{_≡_, ap, ap₂, _∙_}
+use Prim.Native.Nat.{ℕ, _+_, _*_}
+use mathlib.Core.List.{List}
+use native.Mathlib.Omega.{arith}
+use lib.ListN.{drop}
+use denote.Ref.{now}
+use Rattle.jobs.specs.Reading.{systemSection, outputRead, readOf}
+use Rattle.jobs.specs.declared.SystemSection.{SystemSection}
+use Rattle.jobs.proofs.Ways.{SystemPassed, system-passed, refused-here, goes-on, rest}
+use Rattle.jobs.proofs.read.Statement.{statement}
+use Rattle.jobs.proofs.read.Tie as tie
+
+returns : tie.Need-returns
+unfolding readOf
+returns c =
+    let w = c .before .before in
+    c .refused .ensures ∙
+    refused-here 0 (systemSection (now (w .before .before .args .file)) .number) _ (ap (λ (s : SystemSection). s .number) (w .system-section .ensures)) (c .before .if1 .taken)
+
+-- the system's number is 0
+passed : (c : tie.Else1) → SystemPassed (now (c .before .before .before .args .file)) (c .before .system-section .result)
+passed c = system-passed _ (c .before .system-section .ensures) (c .if1 .left)
+
+returns-2 : tie.Need-returns-2
+unfolding readOf
+returns-2 c =
+    let e = c .before .before .before .before in
+    let r = e .before .system-section .result in
+    let file = now (e .before .before .before .args .file) in
+    let p = passed e in
+    c .output-read .ensures ∙
+    ap (λ (l : List ℕ). outputRead l (2 + 16 * r .system .count) (r .system)) (rest file (2 + 16 * r .system .count)) ∙
+    ap₂ (λ n s. outputRead (drop (2 + 16 * n) file) (2 + 16 * n) s) (p .count) (p .is) ∙ goes-on 0 (systemSection file .number) _ (p .number)
+
+pub read-spec : {M : Type 1} → statement M
+read-spec =
+    tie.close
+    (tie.spec
+    (λ c κs. search needs)
+    (λ c κs. search needs)
+    returns
+    (λ c. omega (arith, passed (c .before .before) .count, passed (c .before .before) .present))
+    (λ c. omega (arith, passed (c .before .before) .count, passed (c .before .before) .present))
+    (λ c. omega (arith, passed (c .before .before) .count, passed (c .before .before) .present))
+    (λ c. omega (arith, passed (c .before .before) .count, passed (c .before .before) .present))
+    (λ c. search needs)
+    (λ c κs. omega (arith, passed (c .before .before .before) .count, passed (c .before .before .before) .present))
+    returns-2)

@@ -1,0 +1,115 @@
+-- Sessions, worked. Document 01's own job, "Input R, output R, matrix 2 1 1 2, word 0 0 1", in one call: the output is 0 1 1 and the state 2 1 1 2. The same job with
+-- room for two digits stops with 0 1, the state 3 0 1 1 and the last digit still held; a second call, with no input and more room, ends where the one call ended.
+-- The sessions are computed by the checker from the definitions of opening and `run`. Then what `session-product` and `session-numbers` say of them, in plain numbers:
+-- in `whole-word` at the rest 1/1, and in `half-way` at the rest 2/1, which the held digit 1 makes of 1/1. Both times the input names 2/5, of which the matrix makes
+-- 9/12, and the output names 9/12 in front of what is still to come. Last, the held digit is not absorbed: with it counted in, the product is another.
+use mathlib.Core.Path.{_≡_, refl, ap}
+use mathlib.Core.List.{List, [], _∷_}
+use Prim.Native.Nat.{ℕ, _*_}
+use native.Mathlib.Omega.{arith}
+use lib.ListN.{replicate}
+use lib.IntN.{ℤ, pos, natAbs}
+use Rattle.whole.specs.Range.{at}
+use Rattle.whole.specs.Divisor.{gcdBy, gcd, gcd4}
+use Rattle.whole.proofs.Cases.{up<}
+use Rattle.plane.specs.Plane.{Point, SamePoint, determinantOf, pseudoinverseOf, apply, multiplyOf, Closed, imageOf, cancelOf}
+use Rattle.plane.specs.Scale.{scaleOf}
+use Rattle.plane.specs.Inclusion.{closed?, same?, included?}
+use Rattle.plane.proofs.SameSign.{above-not-0}
+use Rattle.digits.specs.First.{first}
+use Rattle.digits.specs.System.{fourAt}
+use Rattle.digits.specs.Admission.{within?, rowVerdict, rowsVerdict, admissionOf}
+use Rattle.digits.specs.BuiltIn.{rowsR, systemOf}
+use Rattle.digits.proofs.BuiltIn.{r-admitted}
+use Rattle.unary.specs.declared.Held.the-variants.{Nothing, Digit}
+use Rattle.unary.specs.declared.State.{State}
+use Rattle.unary.specs.State.{state?, openOf}
+use Rattle.unary.specs.Step.{fittingOf, stepOf}
+use Rattle.unary.specs.Run.{runBy, stepsOf, refusalOf, runOf}
+use Rattle.meaning.specs.Names.{namedFrom, productOf, EachInItsInterval, UpToScale}
+use Rattle.meaning.specs.Session.{Session}
+use Rattle.meaning.proofs.Sessions.{session-product, session-numbers}
+use Rattle.meaning.proofs.Premise.{_over_, R, computed, holds-at-1, held-holds}
+
+-- ---- the sessions
+
+abbrev four : ℕ → ℕ → ℕ → ℕ → List ℤ
+four a b c d = pos a ∷ pos b ∷ pos c ∷ pos d ∷ []
+
+-- a session on R and R, opened for 2 1 1 2
+abbrev SessionR : List ℕ → List ℕ → State → Type 0
+SessionR taken given s = Session (systemOf rowsR) (systemOf rowsR) (four 2 1 1 2) taken given s
+
+pub new : SessionR [] [] (record { matrix = four 2 1 1 2; held = Nothing })
+unfolding openOf within? determinantOf cancelOf gcd4 gcd gcdBy
+new = Session.opened r-admitted r-admitted refl
+
+pub whole-word : SessionR (0 ∷ 0 ∷ 1 ∷ []) (0 ∷ 1 ∷ 1 ∷ []) (record { matrix = four 2 1 1 2; held = Nothing })
+unfolding systemOf admissionOf rowsVerdict rowVerdict within? gcd gcd4 gcdBy fourAt first closed? same? included? determinantOf pseudoinverseOf apply multiplyOf imageOf
+    cancelOf state? fittingOf stepOf runBy stepsOf refusalOf runOf
+whole-word = Session.called new (0 ∷ 0 ∷ 1 ∷ []) (replicate 8 0)
+
+pub half-way : SessionR (0 ∷ 0 ∷ 1 ∷ []) (0 ∷ 1 ∷ []) (record { matrix = four 3 0 1 1; held = Digit 1 })
+unfolding systemOf admissionOf rowsVerdict rowVerdict within? gcd gcd4 gcdBy fourAt first closed? same? included? determinantOf pseudoinverseOf apply multiplyOf imageOf
+    cancelOf state? fittingOf stepOf runBy stepsOf refusalOf runOf
+half-way = Session.called new (0 ∷ 0 ∷ 1 ∷ []) (replicate 2 0)
+
+pub two-calls : SessionR (0 ∷ 0 ∷ 1 ∷ []) (0 ∷ 1 ∷ 1 ∷ []) (record { matrix = four 2 1 1 2; held = Nothing })
+unfolding systemOf admissionOf rowsVerdict rowVerdict within? gcd gcd4 gcdBy fourAt first closed? same? included? determinantOf pseudoinverseOf apply multiplyOf imageOf
+    cancelOf state? fittingOf stepOf runBy stepsOf refusalOf runOf
+two-calls = Session.called half-way [] (replicate 6 0)
+
+-- ---- the product, in plain numbers
+
+pub whole-product : UpToScale (four 4 5 5 7) (four 4 5 5 7)
+unfolding multiplyOf productOf fourAt systemOf
+whole-product = session-product whole-word (0 ∷ 0 ∷ 1 ∷ []) refl
+
+pub half-product : UpToScale (four 4 1 5 2) (four 4 1 5 2)
+unfolding multiplyOf productOf fourAt systemOf
+half-product = session-product half-way (0 ∷ 0 ∷ []) refl
+
+-- the four numbers with the held digit absorbed are no multiple of that
+pub held-not-absorbed : UpToScale (four 4 1 5 2) (multiplyOf (four 2 1 1 2) (productOf R (0 ∷ 0 ∷ 1 ∷ []))) → ⊥
+unfolding multiplyOf productOf fourAt systemOf scaleOf
+held-not-absorbed u =
+    let first : u .p * 4 ≡ u .q * 4 = ap (λ (m : List ℤ). natAbs (at m 0)) (u .equal) in
+    let second : u .p * 1 ≡ u .q * 5 = ap (λ (m : List ℤ). natAbs (at m 1)) (u .equal) in
+    let above = u .p-above in
+    absurd (omega arith)
+
+-- ---- the numbers: what is still to come, the number that both name, and each digit's interval with the number named from it on
+
+fraction : (n : ℕ) → Point (pos n over pos 1)
+fraction n = record { not-both = λ e f. above-not-0 (up< (omega arith)) f }
+
+pub record SaysWhole : Type 0 where
+  pub still-to-come : Point (pos 3 over pos 3)
+  pub same-number : SamePoint (pos 9 over pos 12) (pos 9 over pos 12)
+  pub digit-0 : Closed (four 0 1 1 1) (pos 9 over pos 12)
+  pub digit-1 : Closed (four 1 1 1 0) (pos 9 over pos 3)
+  pub digit-1-again : Closed (four 1 1 1 0) (pos 6 over pos 3)
+
+pub whole-numbers : SaysWhole
+unfolding namedFrom EachInItsInterval apply fourAt systemOf
+whole-numbers =
+    let n = session-numbers whole-word (0 ∷ 0 ∷ 1 ∷ []) refl (pos 1 over pos 1) (fraction 1) holds-at-1 tt in
+    record {
+      still-to-come = n .still-to-come;
+      same-number = n .same-number;
+      digit-0 = n .each-in-its-interval .0;
+      digit-1 = n .each-in-its-interval .1 .0;
+      digit-1-again = n .each-in-its-interval .1 .1 .0;
+    }
+
+pub record SaysHalf : Type 0 where
+  pub still-to-come : Point (pos 6 over pos 3)
+  pub same-number : SamePoint (pos 9 over pos 12) (pos 9 over pos 12)
+  pub digit-0 : Closed (four 0 1 1 1) (pos 9 over pos 12)
+  pub digit-1 : Closed (four 1 1 1 0) (pos 9 over pos 3)
+
+pub half-numbers : SaysHalf
+unfolding namedFrom EachInItsInterval apply fourAt systemOf closed?
+half-numbers =
+    let n = session-numbers half-way (0 ∷ 0 ∷ []) refl (pos 2 over pos 1) (fraction 2) (computed tt, (computed tt, tt)) held-holds in
+    record { still-to-come = n .still-to-come; same-number = n .same-number; digit-0 = n .each-in-its-interval .0; digit-1 = n .each-in-its-interval .1 .0 }

@@ -1,0 +1,251 @@
+//! Job files by chance: kinds of case with their shares. A case depends on the seed and its number alone.
+
+use crate::chance::Chance;
+use crate::damage;
+use crate::draw_systems::*;
+use crate::plane::{determinant, product, Matrix};
+use crate::reading::Job;
+use crate::systems::{Row, B, D, R};
+
+/// A kind of case: its share of SLOTS, its name, and how a file is drawn. The number handed over counts the times that this kind came up; a kind that
+/// goes through places one after another goes by it.
+pub type Kind = (usize, &'static str, fn(&mut Chance, usize) -> Vec<u8>);
+
+/// The kinds take turns: of any 40 cases in a row, each kind has its share.
+pub const SLOTS: usize = 40;
+
+pub const KINDS: [Kind; 20] = [
+    (5, "built-in systems, a word that names a fraction", |c, _| with_systems(c, built_in, built_in, word_of_fraction)),
+    (4, "built-in systems, digits by chance", |c, _| with_systems(c, built_in, built_in, digits_by_chance)),
+    (3, "built-in systems in other coordinates", |c, _| with_systems(c, changed, any_system, some_word)),
+    (4, "covers between points by chance", |c, _| with_systems(c, any_system, cover, some_word)),
+    (3, "digits in another order, twice, not needed", |c, _| with_systems(c, decorated, decorated, some_word)),
+    (2, "digits that stretch, entries near the range's ends", |c, _| with_systems(c, stretching, stretching_or_other, digits_by_chance)),
+    (1, "powers of ten, entries at the range's ends", |c, _| powers_of_ten(c)),
+    (1, "long words", |c, _| long_word(c)),
+    (1, "outputs that just fit, or do not", full_output),
+    (1, "damaged: the document's job, cut at every length", |_, turn| layout(&documents_job())[..turn % 148].to_vec()),
+    (1, "damaged: a job cut somewhere", |c, _| damaged_file(c, damage::cut)),
+    (1, "damaged: bytes follow", |c, _| damaged_file(c, damage::append)),
+    (2, "damaged: another count", |c, _| damaged_file(c, damage::change_count)),
+    (1, "counts at their limits, with all that is counted", |c, _| damaged_job(c, damage::fill_to_limit)),
+    (2, "damaged: each number of a job in turn, at a limit", number_in_turn),
+    (2, "damaged: a row", |c, _| damaged_job(c, damage::break_row)),
+    (2, "damaged: a cover", |c, _| damaged_job(c, damage::break_cover)),
+    (1, "damaged: the matrix", |c, _| damaged_job(c, damage::break_matrix)),
+    (2, "damaged: several things at once", |c, _| damaged_often(c)),
+    (1, "damaged: bytes by chance", |c, _| damaged_file(c, damage::change_bytes)),
+];
+
+/// The kind of the case with that number (from 1), and how many times this kind came up before.
+pub fn kind_of(number: u64) -> (&'static Kind, usize) {
+    let (slot, round) = ((number - 1) as usize % SLOTS, (number - 1) as usize / SLOTS);
+    let mut first = 0;
+    for kind in &KINDS {
+        if slot < first + kind.0 {
+            return (kind, round * kind.0 + slot - first);
+        }
+        first += kind.0;
+    }
+    unreachable!("the shares add up to {SLOTS}")
+}
+
+/// The job file of a case.
+pub fn case(seed: u64, number: u64) -> Vec<u8> {
+    let (kind, turn) = kind_of(number);
+    kind.2(&mut Chance::of_case(seed, number), turn)
+}
+
+/// "Input R, output R, matrix 2 1 1 2, word 0 0 1 (147 bytes)."
+pub fn documents_job() -> Job {
+    Job { input: R.to_vec(), output: R.to_vec(), matrix: [2, 1, 1, 2], word: vec![0, 0, 1] }
+}
+
+/// The bytes of a job, as "Job file" lays them out.
+pub fn layout(job: &Job) -> Vec<u8> {
+    let mut file = Vec::new();
+    for rows in [&job.input, &job.output] {
+        push_number(&mut file, rows.len() as i128);
+        rows.iter().flatten().for_each(|&n| push_number(&mut file, n));
+    }
+    push_number(&mut file, 4);
+    job.matrix.iter().for_each(|&n| push_number(&mut file, n));
+    push_number(&mut file, job.word.len() as i128);
+    file.extend(&job.word);
+    file
+}
+
+fn push_number(file: &mut Vec<u8>, n: i128) {
+    file.extend((n as u16).to_le_bytes());
+}
+
+type System = fn(&mut Chance) -> Vec<Row>;
+type Word = fn(&mut Chance, &[Row], usize) -> Vec<u8>;
+
+fn with_systems(chance: &mut Chance, input: System, output: System, word: Word) -> Vec<u8> {
+    let (input, output, matrix) = (input(chance), output(chance), matrix(chance));
+    let length = match chance.below(12) {
+        0 => chance.below(2),
+        1 => chance.below(1000),
+        2..=6 => chance.below(12),
+        _ => chance.below(80),
+    };
+    let mut word = word(chance, &input, length);
+    if chance.once_in(8) && length > 0 {
+        let (place, count) = (chance.below(length), input.len() as u8);
+        word[place] = chance.pick(&[count, count + 1, 16, 128, 255]);
+    }
+    layout(&Job { input, output, matrix, word })
+}
+
+fn any_system(chance: &mut Chance) -> Vec<Row> {
+    chance.pick::<System>(&[built_in, changed, cover, decorated, power_of_r])(chance)
+}
+
+fn stretching_or_other(chance: &mut Chance) -> Vec<Row> {
+    chance.pick::<System>(&[stretching, stretching, built_in])(chance)
+}
+
+fn some_word(chance: &mut Chance, rows: &[Row], length: usize) -> Vec<u8> {
+    chance.pick::<Word>(&[word_of_fraction, word_of_fraction, digits_by_chance])(chance, rows, length)
+}
+
+/// Digits of the whole system or of a small part of it.
+fn digits_by_chance(chance: &mut Chance, rows: &[Row], length: usize) -> Vec<u8> {
+    let part = if chance.once_in(3) { 1 + chance.below(rows.len()) } else { rows.len() };
+    let first = chance.below(rows.len());
+    (0..length).map(|_| ((first + chance.below(part)) % rows.len()) as u8).collect()
+}
+
+fn long_word(chance: &mut Chance) -> Vec<u8> {
+    let (input, output) = (any_system(chance), any_system(chance));
+    let length = chance.pick(&[1000, 2000, 3000, 4000, 4096]) - chance.below(3);
+    let word = some_word(chance, &input, length);
+    layout(&Job { input, output, matrix: matrix(chance), word })
+}
+
+fn powers_of_ten(chance: &mut Chance) -> Vec<u8> {
+    let (input, output) = (decimal(chance), chance.pick::<System>(&[decimal, built_in])(chance));
+    let [a, d] = [0; 2].map(|_| chance.pick(&[1, 1, 10, 100, 1000]));
+    let length = chance.below(20);
+    let word = digits_by_chance(chance, &input, length);
+    layout(&Job { input, output, matrix: [a, 0, 0, d], word })
+}
+
+fn full_output(chance: &mut Chance, turn: usize) -> Vec<u8> {
+    let job = match turn % 6 {
+        0 => one_digit_for_ever(chance),
+        1 => room_and_range(chance),
+        _ => more_digits_out(chance),
+    };
+    layout(&job)
+}
+
+/// Two digits that change nothing, of which one fits for ever.
+fn one_digit_for_ever(chance: &mut Chance) -> Job {
+    let rows = vec![[1, 0, 0, 1, 0, 1, 1, 0], [1, 0, 0, 1, 1, 0, 0, -1]];
+    let word = digits_by_chance(chance, &rows, 3);
+    Job { input: rows.clone(), output: rows, matrix: matrix(chance), word }
+}
+
+/// The first two digits of the word bring X to 1 0 0 d. The third is held for ever, and each digit that is given out takes d from the second entry:
+/// after n digits it is −nd. With d = 122070 the room (8192) and the range end at the same step, with the others one of them ends first.
+fn room_and_range(chance: &mut Chance) -> Job {
+    let (m, k, l) = chance.pick(&[(939, 65, 2), (939, 65, 2), (763, 80, 2), (904, 45, 3)]);
+    let input = vec![[1, 0, 0, k, -1, 1, 2, -1], [1, 0, 0, l, -1, 1, 2, -1], [1, 0, 0, 1, 0, 1, 1, 1], [1, 0, 0, 1, -3, 1, 0, 1]];
+    let output = vec![[1, 1, 0, 1, 1, 0, -1, -1], [1, 0, 0, 1, 0, 1, 1, 0]];
+    Job { input, output, matrix: [1, 0, 0, m], word: vec![0, 1, 2] }
+}
+
+/// Two or three digits of R for one, and now and then a byte that is no digit behind them.
+fn more_digits_out(chance: &mut Chance) -> Job {
+    let input = power_of_r(chance);
+    // 2 · 4096 = 8192, and 3 · 2731 = 8193.
+    let length = if input.len() == 8 { 4097 - chance.below(4).max(1) } else { 2733 - chance.below(5) };
+    // The first half of the digits is for the numbers above 0.
+    let mut word = digits_by_chance(chance, &input[..input.len() / 2], length);
+    if word.len() < 4096 && chance.once_in(4) {
+        word.push(16);
+    }
+    let matrix = chance.pick(&[[1, 0, 0, 1], [1, 0, 0, 1], [1, 1, 0, 1], [2, 0, 0, 1]]);
+    Job { input, output: R.to_vec(), matrix, word }
+}
+
+/// Matrices with determinant above 0 and entries in −1000..1000: tiny and huge ones, with determinant 1 or a large one, cancelled or not.
+pub fn matrix(chance: &mut Chance) -> Matrix {
+    let factor = chance.pick(&[2, 6, 97, 300]);
+    match chance.below(8) {
+        0 => [1, 0, 0, 1],
+        1 => positive_matrix(chance, 3),
+        2 => positive_matrix(chance, 1000),
+        3 => unimodular(chance, 12),
+        4 => huge_unimodular(chance),
+        5 => positive_matrix(chance, 1000 / factor).map(|n| n * factor),
+        6 => limit_matrix(chance),
+        _ => [chance.between(1, 1000), chance.between(-1000, 1000), 0, chance.between(1, 1000)],
+    }
+}
+
+/// A product of simplest matrices that grows as long as it can.
+fn huge_unimodular(chance: &mut Chance) -> Matrix {
+    let mut m = chance.pick(&[[1, 0, 0, 1], [-1, 0, 0, -1], [0, 1, -1, 0]]);
+    loop {
+        let longer = product(m, chance.pick(&[[1, 1, 0, 1], [1, 0, 1, 1]]));
+        if longer.iter().any(|n| n.abs() > 1000) {
+            return m;
+        }
+        m = longer;
+    }
+}
+
+fn limit_matrix(chance: &mut Chance) -> Matrix {
+    loop {
+        let m: Matrix = [0; 4].map(|_| chance.pick(&[-1000, -999, -500, -1, 0, 0, 1, 500, 999, 1000]));
+        if determinant(m) > 0 {
+            return m;
+        }
+    }
+}
+
+/// A whole job to be damaged.
+fn whole_job(chance: &mut Chance) -> Job {
+    let (input, output) = (any_system(chance), any_system(chance));
+    let length = chance.below(10);
+    let word = some_word(chance, &input, length);
+    Job { input, output, matrix: matrix(chance), word }
+}
+
+fn damaged_job(chance: &mut Chance, damage: fn(&mut Chance, &mut Job)) -> Vec<u8> {
+    let mut job = whole_job(chance);
+    damage(chance, &mut job);
+    layout(&job)
+}
+
+fn damaged_file(chance: &mut Chance, damage: fn(&mut Chance, &Job, &mut Vec<u8>)) -> Vec<u8> {
+    let job = whole_job(chance);
+    let mut file = layout(&job);
+    damage(chance, &job, &mut file);
+    file
+}
+
+/// Each number of a job from B to D in turn, set to a value at a limit.
+fn number_in_turn(chance: &mut Chance, turn: usize) -> Vec<u8> {
+    let mut job = Job { input: B.to_vec(), output: D.to_vec(), ..documents_job() };
+    damage::set_to_limit(chance, &mut job, turn);
+    layout(&job)
+}
+
+/// Two or three damages: which one is told shows the order of judging.
+fn damaged_often(chance: &mut Chance) -> Vec<u8> {
+    let mut job = whole_job(chance);
+    for _ in 0..2 {
+        let damage = chance.pick::<fn(&mut Chance, &mut Job)>(&[damage::set_any_to_limit, damage::break_row, damage::break_cover, damage::break_matrix]);
+        damage(chance, &mut job);
+    }
+    let mut file = layout(&job);
+    if chance.once_in(2) {
+        let damage = chance.pick::<fn(&mut Chance, &Job, &mut Vec<u8>)>(&[damage::cut, damage::append, damage::change_count]);
+        damage(chance, &job, &mut file);
+    }
+    file
+}

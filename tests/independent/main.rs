@@ -1,0 +1,95 @@
+//! An implementation of document 01, written from its sentences alone, to be held against the proved programs; and a generator of job files.
+//! What it can be asked for is in USAGE below.
+
+mod chance;
+mod damage;
+mod draw_jobs;
+mod draw_systems;
+mod faults;
+mod plane;
+mod reading;
+mod running;
+mod self_test;
+mod show;
+mod systems;
+
+use std::io::{stdin, stdout, BufWriter, Read, Write};
+
+const USAGE: &str = "usage: independent COMMAND [--fault NAME]
+  one              read one job file, print what the program prints for it
+  many             read many job files, each after its length in 4 bytes, low byte first; print the same for each
+  draw SEED COUNT  write that many cases in the form that `many` reads
+  case SEED N      write the job file of case N, the first being 1
+  kind N           print what kind of case N is
+  kinds            print all kinds with their shares
+  show             read one job file, print it in readable form
+  faults           print the names of the faults that --fault plants
+  self-test        hold this implementation against document 01's examples";
+
+fn main() {
+    let mut words: Vec<String> = std::env::args().skip(1).collect();
+    if let Some(place) = words.iter().position(|word| word == "--fault") {
+        let known = words.get(place + 1).is_some_and(|name| faults::plant(name));
+        if !known {
+            give_up("no such fault; `independent faults` prints the names");
+        }
+        words.drain(place..place + 2);
+    }
+    let words: Vec<&str> = words.iter().map(|word| word.as_str()).collect();
+    match words[..] {
+        ["one"] => print(running::printed(&input()).as_bytes()),
+        ["many"] => answer_many(&input()),
+        ["draw", seed, count] => draw(number(seed), number(count)),
+        ["case", seed, n] => print(&draw_jobs::case(number(seed), number(n).max(1))),
+        ["kind", n] => println!("{}", draw_jobs::kind_of(number(n).max(1)).0 .1),
+        ["kinds"] => draw_jobs::KINDS.iter().for_each(|kind| println!("{} of {}: {}", kind.0, draw_jobs::SLOTS, kind.1)),
+        ["show"] => print(show::readable(&input()).as_bytes()),
+        ["faults"] => faults::FAULTS.iter().for_each(|fault| println!("{}: {}", fault.1, fault.2)),
+        ["self-test"] => self_test::all(),
+        _ => give_up(USAGE),
+    }
+}
+
+fn give_up(why: &str) -> ! {
+    eprintln!("{why}");
+    std::process::exit(2)
+}
+
+fn number(word: &str) -> u64 {
+    word.parse().unwrap_or_else(|_| give_up(USAGE))
+}
+
+fn input() -> Vec<u8> {
+    let mut bytes = Vec::new();
+    stdin().read_to_end(&mut bytes).unwrap_or_else(|_| give_up("standard input cannot be read"));
+    bytes
+}
+
+fn print(bytes: &[u8]) {
+    write(&mut stdout(), bytes);
+}
+
+fn write(out: &mut impl Write, bytes: &[u8]) {
+    out.write_all(bytes).unwrap_or_else(|_| give_up("standard output cannot be written"));
+}
+
+fn answer_many(mut jobs: &[u8]) {
+    let mut out = BufWriter::new(stdout());
+    while !jobs.is_empty() {
+        let length = jobs.get(..4).map_or(usize::MAX, |bytes| u32::from_le_bytes(bytes.try_into().unwrap()) as usize);
+        let Some(job) = jobs[4.min(jobs.len())..].get(..length) else { give_up("the input ends within a job") };
+        write(&mut out, running::printed(job).as_bytes());
+        jobs = &jobs[4 + length..];
+    }
+    out.flush().unwrap_or_else(|_| give_up("standard output cannot be written"));
+}
+
+fn draw(seed: u64, count: u64) {
+    let mut out = BufWriter::new(stdout());
+    for n in 1..=count {
+        let job = draw_jobs::case(seed, n);
+        write(&mut out, &(job.len() as u32).to_le_bytes());
+        write(&mut out, &job);
+    }
+    out.flush().unwrap_or_else(|_| give_up("standard output cannot be written"));
+}
