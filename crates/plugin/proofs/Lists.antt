@@ -36,3 +36,13 @@ two (x ∷ y ∷ []) n p q = λ i. p i ∷ q i ∷ []
 two [] n p q = absurd (omega arith)
 two (x ∷ []) n p q = absurd (omega arith)
 two (x ∷ y ∷ z ∷ l) n p q = absurd (omega arith)
+
+-- four numbers, or four counts, written into a slice of four
+pub four : {A : Type 0} (l : List A) {a b c d a′ b′ c′ d′ : A} → length l ≡ 4 → a ≡ a′ → b ≡ b′ → c ≡ c′ → d ≡ d′ →
+    set (set (set (set l 0 a) 1 b) 2 c) 3 d ≡ a′ ∷ b′ ∷ c′ ∷ d′ ∷ []
+four (x ∷ y ∷ z ∷ u ∷ []) n p q r s = λ i. p i ∷ q i ∷ r i ∷ s i ∷ []
+four [] n p q r s = absurd (omega arith)
+four (x ∷ []) n p q r s = absurd (omega arith)
+four (x ∷ y ∷ []) n p q r s = absurd (omega arith)
+four (x ∷ y ∷ z ∷ []) n p q r s = absurd (omega arith)
+four (x ∷ y ∷ z ∷ u ∷ v ∷ l) n p q r s = absurd (omega arith)

@@ -2,16 +2,19 @@
 // A system passes as its rows, eight numbers a digit; a state as five numbers, the matrix and the held digit or −1.
 // A slice of the wrong length is refused by 40, and nothing is written.
 ghost use mathlib.Core.Path.{_≡_};
-ghost use mathlib.Core.List.{_++_};
-ghost use Prim.Native.Nat.{_*_, _%_, _≤_};
+ghost use mathlib.Core.List.{[], _∷_, _++_};
+ghost use Prim.Native.Nat.{_+_, _*_, _%_, _≤_};
 ghost use lib.Dec.{eqb};
 ghost use lib.ListN.{length, take, drop};
 ghost use mathlib.Core.Bool.{_&&_};
 ghost use Rattle.digits.specs.BuiltIn.{joined, rowsR, rowsB, rowsD};
 ghost use Rattle.unary.specs.State.{endNumber, openingNumber};
 ghost use Rattle.plugin.specs.Numbers.{rows?, systemFrom, heldNumber, stateNumbers, heldFrom, stateFrom, refused?, stateAfter};
-ghost use Rattle.plugin.specs.Calls.{admitNumber, wrote, handedOut, openCall, left, runCall};
+ghost use Rattle.plugin.specs.Calls.{admitNumber, wrote, handedOut, fourOf, openCall, left, runCall};
+ghost use Rattle.plugin.specs.Read.{leftRead, readCall};
 use digits::System;
+use jobs::Verdict;
+use jobs::Word;
 use unary::Answer;
 use unary::Held;
 use unary::Opening;
@@ -248,4 +251,92 @@ pub extern "C" fn sled_run(
     counts[0] = a.taken.0;
     counts[1] = a.written.0;
     end_number(stop)
+}
+
+// The 16 rows of a system in memory, unused ones too.
+fn put_rows(s: System, rows: &mut [i16])
+    requires { ⌜ length (now rows) ≡ 128 ⌝ }
+    ensures { λ _. ⌜ now (rows .exit) ≡ s .rows ⌝ }
+{
+    let all = s.rows;
+    copy(&all, rows, 128);
+}
+
+// The four entries of a matrix.
+fn put_four(m: [i64; 4], to: &mut [i64])
+    requires { ⌜ length (now to) ≡ 4 ⌝ }
+    ensures { λ _. ⌜ now (to .exit) ≡ fourOf m ⌝ }
+{
+    to[0] = m[0];
+    to[1] = m[1];
+    to[2] = m[2];
+    to[3] = m[3];
+}
+
+// What else is found in a job file: the counts of digits of the two systems, and where the word stands.
+fn put_found(ins: usize, outs: usize, word: Word, found: &mut [usize])
+    requires { ⌜ length (now found) ≡ 4 ⌝ }
+    ensures { λ _. ⌜ now (found .exit) ≡ ins ∷ outs ∷ word .start ∷ word .length ∷ [] ⌝ }
+{
+    found[0] = ins;
+    found[1] = outs;
+    found[2] = word.start;
+    found[3] = word.length;
+}
+
+// Whether the slices of a reading have the right lengths.
+fn read_lengths(ins: usize, outs: usize, matrix: usize, found: usize) -> bool
+    ensures { λ r. ⌜ r ≡ (eqb ins 128 && eqb outs 128 && eqb matrix 4 && eqb found 4) ⌝ }
+{
+    if ins != 128 {
+        return false;
+    }
+    if outs != 128 {
+        return false;
+    }
+    if matrix != 4 {
+        return false;
+    }
+    found == 4
+}
+
+// The number of a refused reading, with the section 256 times.
+fn with_section(number: u8, section: u8) -> u32
+    ensures { λ r. ⌜ r ≡ number + 256 * section ⌝ }
+{
+    number as u32 + 256 * (section as u32)
+}
+
+// Reads a job file: 0, and the two systems, the matrix and what else is found are written; or the number of the refusal with its section, and nothing is written.
+#[no_mangle]
+pub extern "C" fn sled_read(
+    file: &[u8],
+    ins: &mut [i16],
+    outs: &mut [i16],
+    matrix: &mut [i64],
+    found: &mut [usize],
+) -> u32
+    ensures { λ r. ⌜ leftRead r (now (ins .exit)) (now (outs .exit)) (now (matrix .exit)) (now (found .exit)) ≡
+        readCall (now (file .entry)) (now (ins .entry)) (now (outs .entry)) (now (matrix .entry)) (now (found .entry)) ⌝ }
+{
+    if !read_lengths(ins.len(), outs.len(), matrix.len(), found.len()) {
+        return WRONG_LENGTH;
+    }
+    let r = jobs::read(file);
+    let verdict = r.verdict;
+    let job = r.job;
+    match verdict {
+        Verdict::Refused(number, section) => with_section(number, section),
+        Verdict::Reads => {
+            let input = job.input;
+            let output = job.output;
+            let m = job.matrix;
+            let word = job.word;
+            put_rows(input, ins);
+            put_rows(output, outs);
+            put_four(m, matrix);
+            put_found(input.count, output.count, word, found);
+            0
+        }
+    }
 }
