@@ -5,7 +5,8 @@
 
    HOW IT IS USED
 
-     1. Have two digit systems, one for the input and one for the output: a built-in one (sled_system_r, sled_system_b, sled_system_d) or rows of your own.
+     1. Have two digit systems, one for the input and one for the output: a built-in one (sled_system_r, sled_system_b, sled_system_d), those of a job file (sled_read),
+        or rows of your own.
      2. Open a session for a matrix a b c d: sled_open writes a state of five numbers. They are all that is kept between calls; keep them wherever you like.
      3. Call sled_run with some input bytes, one digit a byte, and some room for output, as often as you like. It says how many bytes it took and how many digits it
         wrote. A word fed in pieces gives the same digits as the whole word at once.
@@ -76,11 +77,21 @@ enum sled_number {
     SLED_REFUSED_GAP = 10,      /* some point is in no digit's closed interval */
     SLED_REFUSED_MATRIX = 11,   /* a d - b c of the matrix to open is not above 0 */
     SLED_REFUSED_STATE = 12,    /* the state breaks the rules for a state */
+
+    /* refusals of a job file alone; the other refusals of its systems and its matrix are those above */
+    SLED_REFUSED_SHORT = 1,     /* the file ends before a count or a section is whole */
+    SLED_REFUSED_LONG = 2,      /* bytes follow the word */
+    SLED_REFUSED_FOUR = 4,      /* the matrix count is not 4 */
+    SLED_REFUSED_WORD = 5,      /* the word count is above 4096 */
     SLED_REFUSED_LENGTH = 40    /* a slice has the wrong length */
 };
 
 /* How many numbers stand in a state, in a matrix, in the rows of one digit and in the rows of the built-in systems; how many counts a run writes. */
-enum { SLED_STATE = 5, SLED_MATRIX = 4, SLED_ROW = 8, SLED_R = 32, SLED_B = 64, SLED_D = 32, SLED_COUNTS = 2 };
+enum { SLED_STATE = 5, SLED_MATRIX = 4, SLED_ROW = 8, SLED_R = 32, SLED_B = 64, SLED_D = 32, SLED_COUNTS = 2, SLED_ROWS = 128, SLED_FOUND = 4 };
+
+/* What sled_read answers holds a number and, where it refuses, the section of the file: 0 input system, 1 output system, 2 matrix, 3 word. */
+#define SLED_NUMBER(answer) ((answer) % 256)
+#define SLED_SECTION(answer) ((answer) / 256)
 
 /* Is this system admitted?
    Answers 0, or the first rule that it breaks: SLED_REFUSED_LENGTH (length is no multiple of 8), SLED_REFUSED_COUNT, then row by row RANGE, MAP, INTERVAL, LOWEST, and
@@ -92,6 +103,20 @@ uint32_t sled_admit(const int16_t *rows, size_t length);
 uint32_t sled_system_r(int16_t *rows, size_t length);
 uint32_t sled_system_b(int16_t *rows, size_t length);
 uint32_t sled_system_d(int16_t *rows, size_t length);
+
+/* Reads a job file: two systems, a matrix and a word. Four sections in this order, each after its count of two bytes, low byte first: the input system (count of digits, then
+   rows of eight signed 16-bit numbers, low byte first), the output system, the matrix (count 4, then a b c d), the word (count 0 to 4096, then one byte a digit).
+
+   ins_length and outs_length have to be SLED_ROWS, matrix_length SLED_MATRIX and found_length SLED_FOUND. Answers
+
+     0                      ins and outs are written whole, 0 behind the last digit's row; matrix is written; found[0] is how many digits the input system has, found[1] how many
+                            the output system has, found[2] where the word starts in the file, and found[3] how many digits it has. So what is run is
+                            sled_run(ins, SLED_ROW * found[0], outs, SLED_ROW * found[1], .., file + found[2], found[3], ..), and sled_open does not refuse the matrix.
+     SLED_REFUSED_LENGTH    a length is wrong. Nothing is written.
+     any other              SLED_NUMBER(answer) is the refusal: COUNT, RANGE, MAP, INTERVAL, LOWEST, GAP, MATRIX, SHORT, LONG, FOUR or WORD. SLED_SECTION(answer) is the section
+                            where it was met. Nothing is written. */
+uint32_t sled_read(const uint8_t *file, size_t file_length, int16_t *ins, size_t ins_length, int16_t *outs, size_t outs_length, int64_t *matrix, size_t matrix_length,
+                   size_t *found, size_t found_length);
 
 /* Opens a session for the matrix a b c d: four numbers in -1000..1000 with a d - b c > 0.
    matrix_length has to be SLED_MATRIX and state_length SLED_STATE. Answers 0 and writes the state: the matrix divided by the greatest common divisor of its entries, and

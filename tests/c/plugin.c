@@ -28,6 +28,10 @@ struct world {
     uint8_t guard6[GUARD];
     size_t counts[4];
     uint8_t guard7[GUARD];
+    uint8_t file[704];
+    uint8_t guard8[GUARD];
+    size_t found[8];
+    uint8_t guard9[GUARD];
 };
 
 static struct world now, then, fresh;
@@ -364,6 +368,98 @@ static void refusals(void) {
     settled(run(n), 40, "40 before all others", 0);
 }
 
+/* ---- job files */
+
+static size_t file_length;
+
+static void byte(int b) { now.file[file_length++] = (uint8_t)b; }
+
+static void pair(int n) {
+    byte(n & 255);
+    byte(n >> 8 & 255);
+}
+
+/* a job file: counts as given, whatever they are, and what stands behind them */
+static void write_job(const int16_t *ins, int n, const int16_t *outs, int m, int four, const int16_t *matrix, int count, int length) {
+    begin();
+    file_length = 0;
+    pair(n);
+    for (int k = 0; k < 8 * n && k < 128; k++) pair(ins[k]);
+    pair(m);
+    for (int k = 0; k < 8 * m && k < 128; k++) pair(outs[k]);
+    pair(four);
+    for (int k = 0; k < 4; k++) pair(matrix[k]);
+    pair(count);
+    for (int k = 0; k < length; k++) byte(k % 3);
+    memcpy(&then, &now, sizeof now);
+}
+
+static uint32_t read_file(void) { return sled_read(now.file, file_length, now.ins, 128, now.outs, 128, now.matrix, 4, now.found, 4); }
+
+static void refuses(uint32_t number, uint32_t section, const char *what, long detail) {
+    uint32_t answer = read_file();
+    check(SLED_NUMBER(answer) == number && SLED_SECTION(answer) == section, what, detail);
+    check(memcmp(&now, &then, sizeof now) == 0, what, detail);
+}
+
+static void good_job(void) {
+    const int16_t m[4] = {1000, -3, 5, 7};
+    write_job(R, 4, B, 8, 4, m, 9, 9);
+    memset(then.ins, 0, 256);
+    memset(then.outs, 0, 256);
+    memcpy(then.ins, R, sizeof R);
+    memcpy(then.outs, B, sizeof B);
+    for (int k = 0; k < 4; k++) then.matrix[k] = m[k];
+    then.found[0] = 4, then.found[1] = 8, then.found[2] = 2 + 64 + 2 + 128 + 10 + 2, then.found[3] = 9;
+    settled(read_file(), 0, "R to B", 0);
+    /* what was read opens and runs as it is */
+    size_t counts[2];
+    uint8_t out[64];
+    check(sled_open(now.matrix, 4, now.state, 5) == 0, "the job opens", 0);
+    uint32_t end = sled_run(now.ins, 8 * now.found[0], now.outs, 8 * now.found[1], now.state, 5, now.file + now.found[2], now.found[3], out, 64, counts, 2);
+    check(end == 0 || end == 20, "the job runs", (long)end);
+}
+
+static void bad_jobs(void) {
+    const int16_t m[4] = {2, 1, 1, 2}, wide[4] = {1001, 0, 0, 1}, down[4] = {1, 2, 2, 1};
+    const int16_t six[8] = {101, 0, 0, 1, 0, 1, 1, 1}, seven[8] = {0, 0, 0, 1, 0, 1, 1, 1}, eight[8] = {1, 0, 0, 1, 1, 0, 0, 1}, nine[8] = {2, 0, 0, 2, 0, 1, 1, 1};
+    const int16_t *bad[] = {six, seven, eight, nine};
+    for (int k = 0; k < 4; k++) {
+        write_job(bad[k], 1, bad[3 - k], 1, 3, down, 5000, 2);
+        refuses((uint32_t)(6 + k), 0, "the input system is judged first", k);
+        write_job(R, 4, bad[k], 1, 3, down, 5000, 2);
+        refuses((uint32_t)(6 + k), 1, "then the output system", k);
+    }
+    write_job(R, 3, R, 4, 4, m, 0, 0), refuses(10, 0, "a gap in the input system", 0);
+    write_job(R, 4, R, 3, 4, m, 0, 0), refuses(10, 1, "a gap in the output system", 0);
+    write_job(R, 0, R, 4, 4, m, 0, 0), refuses(3, 0, "no digits", 0);
+    write_job(R, 4, R, 0, 4, m, 0, 0), refuses(3, 1, "no digits", 1);
+    write_job(R, 4, R, 4, 3, m, 0, 0), refuses(4, 2, "three entries", 0);
+    write_job(R, 4, R, 4, 5, m, 0, 0), refuses(4, 2, "five entries", 0);
+    write_job(R, 4, R, 4, 4, wide, 0, 0), refuses(6, 2, "1001 in the matrix", 0);
+    write_job(R, 4, R, 4, 4, down, 0, 0), refuses(11, 2, "determinant -3", 0);
+    write_job(R, 4, R, 4, 4, m, 4097, 9), refuses(5, 3, "a word of 4097", 0);
+    write_job(R, 4, R, 4, 4, m, 2, 3), refuses(2, 3, "a byte behind the word", 0);
+    begin();
+    file_length = 0;
+    pair(17);
+    memcpy(&then, &now, sizeof now);
+    refuses(3, 0, "17 digits", 0);
+    write_job(R, 4, R, 4, 4, m, 3, 3);
+    for (size_t whole = file_length, n = 0; n < whole; n++) {
+        file_length = n;
+        refuses(1, n < 66 ? 0 : n < 132 ? 1 : n < 142 ? 2 : 3, "a file that ends early", (long)n);
+    }
+    file_length = 147;
+    const size_t right[4] = {128, 128, 4, 4};
+    for (int k = 0; k < 4; k++)
+        for (size_t n = 0; n <= (k < 2 ? 140 : 8); n++) {
+            size_t l[4] = {128, 128, 4, 4};
+            l[k] = n;
+            if (n != right[k]) settled(sled_read(now.file, file_length, now.ins, l[0], now.outs, l[1], now.matrix, l[2], now.found, l[3]), 40, "lengths of reading", (long)n);
+        }
+}
+
 /* ---- the library against plain C, on random inputs */
 
 static u64 seed = 88172645463325252u;
@@ -420,6 +516,8 @@ int main(void) {
     runs();
     pieces();
     refusals();
+    good_job();
+    bad_jobs();
     random_runs(200000);
     printf("%d passed, %d failed\n", passed, failed);
     return failed != 0;

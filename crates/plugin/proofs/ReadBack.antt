@@ -1,14 +1,15 @@
--- What a plug-in keeps between two calls is what the library would have kept: the rows of a built-in system are read as that system, and the five numbers of a state
--- as that state. So the theorems on sessions (crate `meaning`) speak of a plug-in's calls.
-use mathlib.Core.Path.{_≡_, refl, sym, ap}
+-- What a plug-in keeps between two calls is what the library would have kept: the rows of a built-in system, and those of a job's system, are read as that system, and the
+-- five numbers of a state as that state. So the theorems on sessions (crate `meaning`) speak of a plug-in's calls.
+use mathlib.Core.Path.{_≡_, refl, sym, ap, _∙_}
 use mathlib.Core.Bool.{Bool, cond}
 use mathlib.Core.List.{List, [], _∷_}
-use Prim.Native.Nat.{ℕ, _≤_}
+use Prim.Native.Nat.{ℕ, _*_, _-_, _/_, _≤_}
 use native.Mathlib.Omega.{arith}
-use lib.ListN.{length}
-use lib.IntN.{ℤ}
-use borrow.Author.Tests.{le-ltb}
-use Rattle.digits.specs.BuiltIn.{systemOf, joined, rowsR, rowsB, rowsD}
+use lib.ListN.{length, take, replicate}
+use lib.Seq.{take-at}
+use lib.IntN.{ℤ, pos}
+use borrow.Author.Tests.{le-ltb, le-leb}
+use Rattle.digits.specs.BuiltIn.{systemOf, filled, joined, rowsR, rowsB, rowsD}
 use Rattle.unary.specs.declared.Held.{Held}
 use Rattle.unary.specs.declared.Held.the-variants.{Nothing, Digit}
 use Rattle.unary.specs.declared.State.{State}
@@ -25,6 +26,18 @@ b-back = refl
 pub d-back : systemFrom (joined rowsD) ≡ systemOf rowsD
 unfolding systemFrom systemOf
 d-back = refl
+
+-- a job's system has 0 behind its n rows: its first 8·n numbers are read as it
+module _ (l : List ℤ) (n : ℕ) (rows : length l ≡ 8 * n) (few : n ≤ 16) where
+  first-rows : take (8 * n) (filled l) ≡ l
+  first-rows = take-at l (replicate (128 - length l) (pos 0)) (8 * n) rows
+
+  pub system-back : systemFrom (take (8 * n) (filled l)) ≡ record { count = n; rows = filled l }
+  unfolding systemFrom
+  system-back =
+      let count : length l / 8 ≡ n = omega arith in
+      let short : length l ≤ 128 = omega arith in
+      ap systemFrom first-rows ∙ (λ i. record { count = count i; rows = cond (le-leb (length l) 128 short i) (filled l) (replicate 128 (pos 0)) })
 
 -- a held digit is a byte
 abbrev pub Byte : Held → Type 0
