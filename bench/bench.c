@@ -111,6 +111,13 @@ static void round_of(run_call *run, const struct job *j, u8 *out, usize *counts,
 
 static int wrong;
 
+/* the cases where the state left its range, and how often in a round */
+static struct reopening {
+    const char *name;
+    usize times;
+} reopened[20];
+static int reopenings;
+
 static void report(const char *name, double plain, double proved, double digits, const char *unit) {
     printf("| %s | %.1f | %.1f | %s | %.2f |\n", name, digits / plain, digits / proved, unit, plain / proved);
 }
@@ -135,7 +142,7 @@ static void time_run(const char *name, const struct job *j, int rounds) {
         report(name, best[0], best[1], (double)j->calls * 1e-6, "million calls a second");
     else
         report(name, best[0], best[1], digits * 1e-6, "million digits taken a second");
-    if (stops[0] != 0) printf("<!-- %s: reopened %lu times -->\n", name, stops[0]);
+    if (stops[0] != 0) reopened[reopenings++] = (struct reopening){name, stops[0]};
 }
 
 static void time_admit(const char *name, const struct system *s, int rounds) {
@@ -209,5 +216,8 @@ int main(int argc, char **argv) {
     time_admit("admission of R", &R, rounds);
     time_admit("admission of B", &B, rounds);
     time_admit("admission of a random 16", &random[0], rounds);
+    printf("\nWhere the state leaves its range (end 22) the session is opened again, which costs both sides a call:");
+    for (int k = 0; k < reopenings; k++) printf("%s %s, %lu times a round", k == 0 ? "" : ";", reopened[k].name, reopened[k].times);
+    printf(".\n");
     return wrong;
 }
