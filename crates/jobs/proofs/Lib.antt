@@ -4,7 +4,6 @@
 --   Lengths        the largest file; the word lies inside the file
 --   Settled        4,625 bytes settle every file
 --   OneAnswer      no second answer fits
---   Settled        4,625 bytes settle every file
 -- and what these stand on:
 --   Numbers, Sixteen                    numbers in bytes: what is written is read back, and what is read is written back; which numbers are signed 16-bit numbers
 --   Sections, Ways, Begins              what each section answers, one law for each way it can go; what bytes begin with

@@ -1,0 +1,223 @@
+/* Times the proved library against plain C of the same algorithm (bench/plain.c), both compiled by one compiler into one program, by turns in one run. The best of many
+   rounds counts on either side. Before a case is timed, both sides run it and their answers are compared. bench/run builds, runs and keeps the table. */
+#include "plain.h"
+#include "sledhillock.h"
+
+int printf(const char *format, ...);
+void *memcpy(void *to, const void *from, size_t n);
+int memcmp(const void *a, const void *b, size_t n);
+struct timespec {
+    long seconds, nanoseconds;
+};
+int clock_gettime(int clock, struct timespec *t);
+
+typedef u32 run_call(const i16 *, usize, const i16 *, usize, i64 *, usize, const u8 *, usize, u8 *, usize, usize *, usize);
+typedef u32 admit_call(const i16 *, usize);
+
+static u32 proved_run(const i16 *ins, usize n, const i16 *outs, usize m, i64 *state, usize s, const u8 *input, usize length, u8 *output, usize room, usize *counts, usize c) {
+    return sled_run(ins, n, outs, m, (int64_t *)state, s, input, length, output, room, counts, c);
+}
+
+static double now(void) {
+    struct timespec t;
+    clock_gettime(2, &t); /* the processor time of this program, so that others on the machine count for less */
+    return (double)t.seconds + 1e-9 * (double)t.nanoseconds;
+}
+
+static u64 seed = 88172645463325252u;
+
+static u32 any(u32 below) {
+    seed ^= seed << 13;
+    seed ^= seed >> 7;
+    seed ^= seed << 17;
+    return (u32)(seed >> 33) % below;
+}
+
+/* ---- systems */
+
+struct system {
+    i16 rows[128];
+    usize length;
+};
+
+static struct system R, B, D;
+
+static void leaf(i16 *row, const i16 *f, int half) {
+    /* F maps (0, infinity), or (infinity, 0), onto the digit's interval */
+    for (int k = 0; k < 4; k++) row[k] = f[k];
+    i16 ends[4] = {0, 1, 1, 0};
+    if (half == 1) ends[0] = 1, ends[1] = 0, ends[2] = 0, ends[3] = -1;
+    for (int e = 0; e < 2; e++) {
+        row[4 + 2 * e] = (i16)(f[0] * ends[2 * e] + f[1] * ends[2 * e + 1]);
+        row[5 + 2 * e] = (i16)(f[2] * ends[2 * e] + f[3] * ends[2 * e + 1]);
+    }
+}
+
+/* Sixteen digits: the two halves of the line are split, eight pieces each, where R's digits would split them, at random. So the word of a number is a path in a tree, and
+   words of any length run on. Digits 0 to 7 are those of the half (0, infinity). */
+static struct system random_16(void) {
+    struct system s;
+    s.length = 128;
+    for (int half = 0; half < 2; half++) {
+        i16 maps[8][4] = {{1, 0, 0, 1}};
+        for (int n = 1; n < 8;) {
+            int k = (int)any((u32)n);
+            i16 a = maps[k][0], b = maps[k][1], c = maps[k][2], d = maps[k][3];
+            i16 t = half == 0 ? 1 : -1;
+            /* times (1 0 t 1), and times (1 t 0 1): R's digits 0 and 1, or 3 and 2 */
+            i16 low[4] = {(i16)(a + t * b), b, (i16)(c + t * d), d}, high[4] = {a, (i16)(b + t * a), c, (i16)(d + t * c)};
+            memcpy(maps[k], low, sizeof low);
+            memcpy(maps[n++], high, sizeof high);
+        }
+        for (int k = 0; k < 8; k++) leaf(s.rows + 64 * half + 8 * k, maps[k], half);
+    }
+    return s;
+}
+
+/* ---- cases */
+
+enum { LONG = 20000, ROOM = 64 * LONG };
+static u8 word[LONG], output[2][ROOM];
+
+struct job {
+    const struct system *ins, *outs;
+    i64 matrix[4];
+    usize length, calls; /* digits a call, and calls a round */
+};
+
+/* One round: the word, so many digits a call. Where the state leaves its range the session is opened again. Answers the digits taken and written, and a sum of the ends. */
+static void round_of(run_call *run, const struct job *j, u8 *out, usize *counts, usize *stops) {
+    i64 state[5] = {j->matrix[0], j->matrix[1], j->matrix[2], j->matrix[3], -1};
+    usize taken = 0, written = 0, ends = 0;
+    for (usize k = 0; k < j->calls; k++) {
+        usize c[2], give = j->length * (k + 1) - taken;
+        u32 end = run(j->ins->rows, j->ins->length, j->outs->rows, j->outs->length, state, 5, word + taken, give, out + written, ROOM - written, c, 2);
+        taken += c[0];
+        written += c[1];
+        if (end == 22) {
+            ends++;
+            for (int i = 0; i < 4; i++) state[i] = j->matrix[i];
+            state[4] = -1;
+            k--;
+        } else if (end != 0) {
+            ends += 1000000;
+            break;
+        }
+    }
+    counts[0] = taken;
+    counts[1] = written;
+    *stops = ends;
+}
+
+static int wrong;
+
+/* the cases where the state left its range, and how often in a round */
+static struct reopening {
+    const char *name;
+    usize times;
+} reopened[20];
+static int reopenings;
+
+static void report(const char *name, double plain, double proved, double digits, const char *unit) {
+    printf("| %s | %.1f | %.1f | %s | %.2f |\n", name, digits / plain, digits / proved, unit, plain / proved);
+}
+
+static void time_run(const char *name, const struct job *j, int rounds) {
+    run_call *calls[2] = {plain_run, proved_run};
+    usize counts[2][2], stops[2];
+    double best[2] = {1e9, 1e9};
+    for (int r = 0; r < rounds; r++)
+        for (int side = 0; side < 2; side++) {
+            double start = now();
+            round_of(calls[side], j, output[side], counts[side], &stops[side]);
+            double time = now() - start;
+            if (time < best[side]) best[side] = time;
+        }
+    if (counts[0][0] != counts[1][0] || counts[0][1] != counts[1][1] || stops[0] != stops[1] || memcmp(output[0], output[1], counts[0][1]) != 0) {
+        printf("%s: the two sides answer differently\n", name);
+        wrong = 1;
+    }
+    double digits = (double)counts[0][0];
+    if (j->length == 1)
+        report(name, best[0], best[1], (double)j->calls * 1e-6, "million calls a second");
+    else
+        report(name, best[0], best[1], digits * 1e-6, "million digits taken a second");
+    if (stops[0] != 0) reopened[reopenings++] = (struct reopening){name, stops[0]};
+}
+
+static void time_admit(const char *name, const struct system *s, int rounds) {
+    admit_call *calls[2] = {plain_admit, sled_admit};
+    double best[2] = {1e9, 1e9};
+    u32 sum[2] = {0, 0};
+    for (int r = 0; r < rounds; r++)
+        for (int side = 0; side < 2; side++) {
+            double start = now();
+            u32 total = 0;
+            for (int k = 0; k < 1000; k++) total += calls[side](s->rows, s->length);
+            double time = now() - start;
+            sum[side] = total;
+            if (time < best[side]) best[side] = time;
+        }
+    if (sum[0] != 0 || sum[1] != 0) {
+        printf("%s: not admitted\n", name);
+        wrong = 1;
+    }
+    report(name, best[0], best[1], 1000 * 1e-6, "million systems a second");
+}
+
+/* a word of digits 0 to n - 1 */
+static void random_word(u32 n) {
+    for (usize k = 0; k < LONG; k++) word[k] = (u8)any(n);
+}
+
+/* a word of another system for a random number: what a run writes on R's random word */
+static void word_of(const struct system *s) {
+    static u8 source[LONG];
+    const i64 one[5] = {1, 0, 0, 1, -1};
+    i64 state[5];
+    usize counts[2], filled = 0;
+    for (usize k = 0; k < LONG; k++) source[k] = (u8)any(2);
+    memcpy(state, one, sizeof one);
+    usize from = 0;
+    while (filled < LONG && from < LONG) {
+        u32 end = plain_run(R.rows, R.length, s->rows, s->length, state, 5, source + from, LONG - from, word + filled, LONG - filled, counts, 2);
+        from += counts[0];
+        filled += counts[1];
+        if (end == 22) memcpy(state, one, sizeof one);
+        if (end == 20) break;
+    }
+    for (usize k = filled; k < LONG; k++) word[k] = word[k - filled];
+}
+
+int main(int argc, char **argv) {
+    int rounds = argc > 1 && argv[1][0] == 'q' ? 30 : 300;
+    R.length = D.length = 32, B.length = 64;
+    sled_system_r(R.rows, 32);
+    sled_system_b(B.rows, 64);
+    sled_system_d(D.rows, 32);
+    printf("| case | plain C | proved | unit | proved / plain |\n|---|---|---|---|---|\n");
+    random_word(2);
+    time_run("R to R, 2 1 1 2, long word", &(struct job){&R, &R, {2, 1, 1, 2}, LONG, 1}, rounds);
+    time_run("R to R, 5 2 3 4, long word", &(struct job){&R, &R, {5, 2, 3, 4}, LONG, 1}, rounds);
+    time_run("R to R, one digit a call", &(struct job){&R, &R, {2, 1, 1, 2}, 1, 2000}, rounds);
+    word_of(&B);
+    time_run("B to B, 3 1 1 3, long word", &(struct job){&B, &B, {3, 1, 1, 3}, LONG, 1}, rounds);
+    time_run("B to B, one digit a call", &(struct job){&B, &B, {3, 1, 1, 3}, 1, 2000}, rounds);
+    word_of(&D);
+    time_run("D to B, 3 -1 0 1, long word", &(struct job){&D, &B, {3, -1, 0, 1}, LONG, 1}, rounds);
+    time_run("D to B, one digit a call", &(struct job){&D, &B, {3, -1, 0, 1}, 1, 2000}, rounds);
+    static struct system random[6];
+    for (int k = 0; k < 6; k++) random[k] = random_16();
+    random_word(8);
+    time_run("random 16 to random 16, long word", &(struct job){&random[0], &random[1], {2, 1, 1, 2}, LONG, 1}, rounds);
+    time_run("another pair, long word", &(struct job){&random[2], &random[3], {7, 1, 2, 5}, LONG, 1}, rounds);
+    time_run("a third pair, long word", &(struct job){&random[4], &random[5], {5, 0, 1, 3}, LONG, 1}, rounds);
+    time_run("random 16 to random 16, one digit a call", &(struct job){&random[0], &random[1], {2, 1, 1, 2}, 1, 2000}, rounds);
+    time_admit("admission of R", &R, rounds);
+    time_admit("admission of B", &B, rounds);
+    time_admit("admission of a random 16", &random[0], rounds);
+    printf("\nWhere the state leaves its range (end 22) the session is opened again, which costs both sides a call:");
+    for (int k = 0; k < reopenings; k++) printf("%s %s, %lu times a round", k == 0 ? "" : ";", reopened[k].name, reopened[k].times);
+    printf(".\n");
+    return wrong;
+}

@@ -1,0 +1,27 @@
+-- "That no second answer fits is itself proved": whatever two answers of a C function keep its promise, with whatever they leave in the lent slices, they are the same.
+-- Each promise is an equation with one value, which both are.
+use mathlib.Core.Path.{_≡_, sym, _∙_}
+use mathlib.Core.List.{List}
+use Prim.Native.Nat.{ℕ}
+use lib.IntN.{ℤ}
+use Rattle.plugin.specs.Read.{ReadCall, readCall}
+use Rattle.plugin.specs.Calls.{admitNumber, Wrote, wrote, handedOut, openCall, Call, left, runCall}
+
+pub one-admission : (rows : List ℤ) (r r′ : ℕ) → r ≡ admitNumber rows → r′ ≡ admitNumber rows → r ≡ r′
+one-admission rows r r′ p q = p ∙ sym q
+
+pub one-built-in : (rows old : List ℤ) (r r′ : ℕ) (new new′ : List ℤ) →
+    wrote r new ≡ handedOut rows old → wrote r′ new′ ≡ handedOut rows old → wrote r new ≡ wrote r′ new′
+one-built-in rows old r r′ new new′ p q = p ∙ sym q
+
+pub one-opening : (m old : List ℤ) (r r′ : ℕ) (new new′ : List ℤ) →
+    wrote r new ≡ openCall m old → wrote r′ new′ ≡ openCall m old → wrote r new ≡ wrote r′ new′
+one-opening m old r r′ new new′ p q = p ∙ sym q
+
+-- of a run: two calls that find the same leave the same
+pub one-run : (ins outs : List ℤ) (input : List ℕ) (old : List ℤ) (output counts : List ℕ) (x y : Call) →
+    x ≡ runCall ins outs input old output counts → y ≡ runCall ins outs input old output counts → x ≡ y
+one-run ins outs input old output counts x y p q = p ∙ sym q
+
+pub one-reading : (file : List ℕ) (ins outs m : List ℤ) (found : List ℕ) (x y : ReadCall) → x ≡ readCall file ins outs m found → y ≡ readCall file ins outs m found → x ≡ y
+one-reading file ins outs m found x y p q = p ∙ sym q

@@ -1,0 +1,146 @@
+/* Sledhillock: exact arithmetic on numbers that are written as digits. The C library.
+
+   A number comes in as a word of digits of one system and goes out, changed by x -> (a x + b) / (c x + d), as digits of another. Nothing is rounded, and a digit that
+   was given out is never taken back.
+
+   HOW IT IS USED
+
+     1. Have two digit systems, one for the input and one for the output: a built-in one (sled_system_r, sled_system_b, sled_system_d), those of a job file (sled_read),
+        or rows of your own.
+     2. Open a session for a matrix a b c d: sled_open writes a state of five numbers. They are all that is kept between calls; keep them wherever you like.
+     3. Call sled_run with some input bytes, one digit a byte, and some room for output, as often as you like. It says how many bytes it took and how many digits it
+        wrote. A word fed in pieces gives the same digits as the whole word at once.
+
+   WHAT IS PROMISED OF EVERY CALL
+
+     - Test nothing first. Every call is fit for every input: it ends, and what breaks a rule is refused by a number (below). Any numbers may stand in the slices.
+     - A call writes what is said of it here, and no other byte of yours, ever. It keeps nothing, allocates nothing and prints nothing; it has no state of its own, so
+       that any number of threads may call it, each with its own state and buffers.
+     - What is said of a call is proved of its code, for all inputs.
+
+   WHAT THE CALLER OWES
+
+     - Each pointer is good for the length that stands behind it, and suitably aligned: lengths count elements, not bytes. A pointer may not be null, even with length 0.
+     - Where a call writes a slice, no other slice of the same call overlaps it.
+
+   THE NUMBERS
+
+     A SYSTEM is its rows, one behind the other: eight numbers for each digit, a b c d x0 x1 y0 y1. Digit k stands for the map F(x) = (a x + b) / (c x + d) and for the
+     interval W with left end x0/x1 and right end y0/y1 (1/0 is infinity). It has 1 to 16 digits, so a length of 8 to 128 numbers. It is admitted if every number lies
+     in -100..100, a d - b c > 0, x0 y1 - x1 y0 < 0, the four numbers of F have greatest common divisor 1, so have the two of each end, and every point of the line, with
+     infinity, lies in the closed interval of some digit.
+
+     A STATE is five numbers: the entries a b c d of a matrix, then the digit that was taken and is not yet absorbed, or -1 if there is none. It keeps the rules if the
+     four have greatest common divisor 1, a d - b c > 0, each lies in -1000000000..1000000000, and the fifth is -1 or a digit of the input system. The states that
+     sled_open and sled_run write keep them.
+
+     A DIGIT is one byte: 0, 1, 2 and so on, not '0', '1', '2'.
+*/
+#ifndef SLEDHILLOCK_H
+#define SLEDHILLOCK_H
+
+#ifdef __has_include
+#if !__has_include(<stdint.h>)
+#define SLED_NO_HEADERS /* a compiler without its headers, as the Rattle toolchain's own */
+#endif
+#endif
+#ifndef SLED_NO_HEADERS
+#include <stddef.h>
+#include <stdint.h>
+#else
+typedef __UINT8_TYPE__ uint8_t;
+typedef __INT16_TYPE__ int16_t;
+typedef __INT64_TYPE__ int64_t;
+typedef __UINT32_TYPE__ uint32_t;
+typedef __SIZE_TYPE__ size_t;
+#endif
+
+#ifdef __cplusplus
+extern "C" {
+#endif
+
+/* What a call answers. */
+enum sled_number {
+    SLED_OK = 0,                /* admitted, opened or written; of a run: all the input was taken, nothing is held, and no digit more can be given out */
+
+    /* a run stopped, and may go on: see sled_run */
+    SLED_END_NO_ROOM = 20,      /* the next digit is certain, and the output is full */
+    SLED_END_NOT_A_DIGIT = 21,  /* the next byte is no digit of the input system; it was not taken */
+    SLED_END_RANGE_LEFT = 22,   /* the next state has an entry outside -1000000000..1000000000; it was not entered */
+
+    /* refusals: nothing was done */
+    SLED_REFUSED_COUNT = 3,     /* a system has 0 or more than 16 digits */
+    SLED_REFUSED_RANGE = 6,     /* a number is out of its range: of a system -100..100, of a matrix to open -1000..1000 */
+    SLED_REFUSED_MAP = 7,       /* a d - b c of a digit's map is not above 0 */
+    SLED_REFUSED_INTERVAL = 8,  /* x0 y1 - x1 y0 of a digit's interval is not below 0 */
+    SLED_REFUSED_LOWEST = 9,    /* a digit's map, or an end of its interval, is not in lowest terms */
+    SLED_REFUSED_GAP = 10,      /* some point is in no digit's closed interval */
+    SLED_REFUSED_MATRIX = 11,   /* a d - b c of the matrix to open is not above 0 */
+    SLED_REFUSED_STATE = 12,    /* the state breaks the rules for a state */
+
+    /* refusals of a job file alone; the other refusals of its systems and its matrix are those above */
+    SLED_REFUSED_SHORT = 1,     /* the file ends before a count or a section is whole */
+    SLED_REFUSED_LONG = 2,      /* bytes follow the word */
+    SLED_REFUSED_FOUR = 4,      /* the matrix count is not 4 */
+    SLED_REFUSED_WORD = 5,      /* the word count is above 4096 */
+    SLED_REFUSED_LENGTH = 40    /* a slice has the wrong length */
+};
+
+/* How many numbers stand in a state, in a matrix, in the rows of one digit and in the rows of the built-in systems; how many counts a run writes. */
+enum { SLED_STATE = 5, SLED_MATRIX = 4, SLED_ROW = 8, SLED_R = 32, SLED_B = 64, SLED_D = 32, SLED_COUNTS = 2, SLED_ROWS = 128, SLED_FOUND = 4 };
+
+/* What sled_read answers holds a number and, where it refuses, the section of the file: 0 input system, 1 output system, 2 matrix, 3 word. */
+#define SLED_NUMBER(answer) ((answer) % 256)
+#define SLED_SECTION(answer) ((answer) / 256)
+
+/* Is this system admitted?
+   Answers 0, or the first rule that it breaks: SLED_REFUSED_LENGTH (length is no multiple of 8), SLED_REFUSED_COUNT, then row by row RANGE, MAP, INTERVAL, LOWEST, and
+   at last GAP. Writes nothing. sled_run judges its systems itself: nobody has to ask first. */
+uint32_t sled_admit(const int16_t *rows, size_t length);
+
+/* The rows of a built-in system: R (the regular continued fractions of the sources, 4 digits), B (the bimodular system, 8 digits), D (binary signed digits, 4 digits).
+   length has to be SLED_R, SLED_B or SLED_D. Answers 0 and writes all the numbers; or SLED_REFUSED_LENGTH, and writes nothing. */
+uint32_t sled_system_r(int16_t *rows, size_t length);
+uint32_t sled_system_b(int16_t *rows, size_t length);
+uint32_t sled_system_d(int16_t *rows, size_t length);
+
+/* Reads a job file: two systems, a matrix and a word. Four sections in this order, each after its count of two bytes, low byte first: the input system (count of digits, then
+   rows of eight signed 16-bit numbers, low byte first), the output system, the matrix (count 4, then a b c d), the word (count 0 to 4096, then one byte a digit).
+
+   ins_length and outs_length have to be SLED_ROWS, matrix_length SLED_MATRIX and found_length SLED_FOUND. Answers
+
+     0                      ins and outs are written whole, 0 behind the last digit's row; matrix is written; found[0] is how many digits the input system has, found[1] how many
+                            the output system has, found[2] where the word starts in the file, and found[3] how many digits it has. So what is run is
+                            sled_run(ins, SLED_ROW * found[0], outs, SLED_ROW * found[1], .., file + found[2], found[3], ..), and sled_open does not refuse the matrix.
+     SLED_REFUSED_LENGTH    a length is wrong. Nothing is written.
+     any other              SLED_NUMBER(answer) is the refusal: COUNT, RANGE, MAP, INTERVAL, LOWEST, GAP, MATRIX, SHORT, LONG, FOUR or WORD. SLED_SECTION(answer) is the section
+                            where it was met. Nothing is written. */
+uint32_t sled_read(const uint8_t *file, size_t file_length, int16_t *ins, size_t ins_length, int16_t *outs, size_t outs_length, int64_t *matrix, size_t matrix_length,
+                   size_t *found, size_t found_length);
+
+/* Opens a session for the matrix a b c d: four numbers in -1000..1000 with a d - b c > 0.
+   matrix_length has to be SLED_MATRIX and state_length SLED_STATE. Answers 0 and writes the state: the matrix divided by the greatest common divisor of its entries, and
+   -1. Or answers SLED_REFUSED_LENGTH, SLED_REFUSED_RANGE or SLED_REFUSED_MATRIX, the first that applies, and writes nothing. */
+uint32_t sled_open(const int64_t *matrix, size_t matrix_length, int64_t *state, size_t state_length);
+
+/* Takes bytes of the input and writes digits to the output until it has to stop, and answers why:
+
+     SLED_OK, SLED_END_..   counts[0] is how many bytes were taken, counts[1] how many digits were written, from the start of the output on; the state is the new one. The
+                            bytes of the output behind the written ones are unchanged. To go on after SLED_OK or SLED_END_NO_ROOM, call again with this state, the input
+                            from the first byte that was not taken, and new room. After SLED_END_NOT_A_DIGIT pass over or mend the byte first. After
+                            SLED_END_RANGE_LEFT the session is over: with the same digits it stops again.
+     SLED_REFUSED_..        of the input system (COUNT, RANGE, MAP, INTERVAL, LOWEST, GAP, as sled_admit), then of the output system, then SLED_REFUSED_STATE: counts[0]
+                            and counts[1] are 0, and the state and the output are unchanged.
+     SLED_REFUSED_LENGTH    the length of a system is no multiple of 8, state_length is not SLED_STATE or counts_length is not SLED_COUNTS: nothing is written, not even
+                            the counts.
+
+   input_length and output_length may be anything, 0 too. A call first judges both systems, so feed long pieces where speed matters. Steps are linear in bytes taken plus
+   digits written. */
+uint32_t sled_run(const int16_t *in_rows, size_t in_length, const int16_t *out_rows, size_t out_length, int64_t *state, size_t state_length, const uint8_t *input,
+                  size_t input_length, uint8_t *output, size_t output_length, size_t *counts, size_t counts_length);
+
+#ifdef __cplusplus
+}
+#endif
+
+#endif
