@@ -1,15 +1,15 @@
 -- The judgement of a digit system, as a computation: "System: row by row 6, 7, 8, 9; then 10", behind 3 for the count. The theorem `admitted-says`
 -- (proofs/AdmittedSays.antt) proves that each answer is given exactly when document 01's sentence holds, as specs/Admitted.antt states it.
-use mathlib.Core.Bool.{Bool, true, false, not, cond, _&&_, _||_}
+use mathlib.Core.Bool.{Bool, not, cond, _&&_}
 use mathlib.Core.List.{List}
 use mathlib.Core.Option.{Option, none, some}
 use Prim.Native.Nat.{ℕ, _<_}
 use lib.Dec.{leb, eqb}
 use lib.IntN.{ℤ, pos, natAbs}
-use lib.Signed.{leZ, ltZ}
+use lib.Signed.{ltZ}
 use Rattle.whole.specs.Range.{at, Within}
 use Rattle.whole.specs.Divisor.{gcd, gcd4}
-use Rattle.plane.specs.Plane.{Pair, det, left, right, determinantOf}
+use Rattle.plane.specs.Plane.{right, determinantOf}
 use Rattle.plane.specs.Inclusion.{closed?, same?}
 use Rattle.digits.specs.First.{first, found?}
 use Rattle.digits.specs.System.{transformationOf, intervalOf}

@@ -1,7 +1,6 @@
 -- Document 01 on inclusion: the sentence that says what it is, and the test that decides it. The theorem `included-says` (proofs/Inclusion.antt) proves that they agree.
 use mathlib.Core.Bool.{Bool, not, _&&_, _||_}
 use mathlib.Core.List.{List, [], _∷_}
-use Prim.Native.Nat.{ℕ}
 use lib.Dec.{eqb}
 use lib.IntN.{ℤ, pos, natAbs, _*ℤ_}
 use lib.Signed.{leZ}

@@ -1,7 +1,6 @@
 -- Document 01, "Points, matrices, intervals", in its own words and order. A matrix [a, b, c, d] and an interval x0 x1 y0 y1 are lists of four whole numbers.
 use mathlib.Core.Path.{_≡_}
 use mathlib.Core.List.{List, [], _∷_}
-use Prim.Native.Nat.{ℕ}
 use lib.IntN.{ℤ, pos, negℤ, _+ℤ_, _-ℤ_, _*ℤ_}
 use lib.Signed.{_≤ℤ_, _<ℤ_}
 use Rattle.whole.specs.Range.{at}

@@ -1,19 +1,19 @@
 -- What each call leaves, by the case that applies.
-use mathlib.Core.Path.{_≡_, refl, ap, _∙_}
+use mathlib.Core.Path.{_≡_, refl, ap}
 use mathlib.Core.Bool.{Bool, true, false, cond, _&&_}
-use mathlib.Core.List.{List, []}
-use Prim.Native.Nat.{ℕ, _/_}
+use mathlib.Core.List.{List}
+use Prim.Native.Nat.{ℕ}
 use native.Mathlib.Omega.{arith}
 use lib.Dec.{eqb}
 use lib.ListN.{length}
 use lib.IntN.{ℤ}
 use borrow.Author.Tests.{eq-eqb, ne-eqb, eqb-true}
 use Rattle.unary.specs.State.{openOf}
-use Rattle.unary.specs.Run.{Ran, runOf}
+use Rattle.unary.specs.Run.{runOf}
 use Rattle.jobs.specs.Reading.{readOf}
 use Rattle.plugin.specs.Numbers.{wrongLength, rows?, systemFrom, stateFrom}
 use Rattle.plugin.specs.Read.{leftRead, readingCall, readLengths?, readCall}
-use Rattle.plugin.specs.Calls.{admitted, admitNumber, Wrote, wrote, handedOut, openLengths?, fourOf, opened, openCall, Call, left, ranCall, runLengths?, runCall}
+use Rattle.plugin.specs.Calls.{wrote, handedOut, fourOf, opened, openCall, left, ranCall, runLengths?, runCall}
 
 -- the rows of a built-in system
 pub handed-shut : (rows old : List ℤ) → (length old ≡ length rows → ⊥) → handedOut rows old ≡ wrote wrongLength old

@@ -5,7 +5,7 @@ use mathlib.Core.List.{List}
 use Prim.Native.Nat.{ℕ}
 use lib.IntN.{ℤ}
 use Rattle.plugin.specs.Read.{ReadCall, readCall}
-use Rattle.plugin.specs.Calls.{admitNumber, Wrote, wrote, handedOut, openCall, Call, left, runCall}
+use Rattle.plugin.specs.Calls.{admitNumber, wrote, handedOut, openCall, Call, runCall}
 
 pub one-admission : (rows : List ℤ) (r r′ : ℕ) → r ≡ admitNumber rows → r′ ≡ admitNumber rows → r ≡ r′
 one-admission rows r r′ p q = p ∙ sym q

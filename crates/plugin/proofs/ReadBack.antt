@@ -1,6 +1,6 @@
 -- What a plug-in keeps between two calls is what the library would have kept: the rows of a built-in system, and those of a job's system, are read as that system, and the
 -- five numbers of a state as that state. So the theorems on sessions (crate `meaning`) speak of a plug-in's calls.
-use mathlib.Core.Path.{_≡_, refl, sym, ap, _∙_}
+use mathlib.Core.Path.{_≡_, refl, ap, _∙_}
 use mathlib.Core.Bool.{Bool, cond}
 use mathlib.Core.List.{List, [], _∷_}
 use Prim.Native.Nat.{ℕ, _*_, _-_, _/_, _≤_}

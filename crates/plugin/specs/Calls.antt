@@ -1,14 +1,13 @@
 -- What each C function answers, and what every lent number and byte is afterwards, for all inputs.
 use mathlib.Core.Bool.{Bool, cond, _&&_}
 use mathlib.Core.List.{List, [], _∷_}
-use Prim.Native.Nat.{ℕ, zero, suc, _*_}
+use Prim.Native.Nat.{ℕ}
 use lib.Dec.{eqb}
-use lib.ListN.{length, take}
+use lib.ListN.{length}
 use lib.IntN.{ℤ}
 use Rattle.whole.specs.Range.{at}
 use Rattle.digits.specs.declared.System.{System}
 use Rattle.digits.specs.Admission.{refusalNumber, admissionOf}
-use Rattle.digits.specs.BuiltIn.{joined}
 use Rattle.unary.specs.declared.Opening.{Opening}
 use Rattle.unary.specs.declared.Opening.the-variants.{Opens, OutOfRange, NotAbove}
 use Rattle.unary.specs.declared.Start.{Start}

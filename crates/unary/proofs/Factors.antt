@@ -3,7 +3,6 @@
 use Prim.Native.Nat.{ℕ}
 use mathlib.Core.List.{List}
 use lib.IntN.{ℤ}
-use Rattle.whole.specs.Range.{Within}
 use Rattle.whole.proofs.Range.{within-le}
 use Rattle.plane.specs.Plane.{pseudoinverseOf}
 use Rattle.plane.specs.Scale.{Keeps}

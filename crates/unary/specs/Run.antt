@@ -1,8 +1,8 @@
 -- A run: the step, again and again, until one stops; and what is judged before any step.
-use mathlib.Core.Bool.{Bool, true, false, cond}
+use mathlib.Core.Bool.{cond}
 use mathlib.Core.List.{List, _++_}
 use Prim.Native.Nat.{ℕ, zero, suc, _+_, _*_, _-_}
-use lib.Dec.{ltb, eqb}
+use lib.Dec.{ltb}
 use lib.ListN.{getD, set, length, take}
 use Rattle.digits.specs.Admission.{refusalNumber, admissionOf}
 use Rattle.digits.specs.declared.System.{System}
@@ -10,7 +10,7 @@ use Rattle.unary.specs.declared.Held.{Held}
 use Rattle.unary.specs.declared.Held.the-variants.{Nothing, Digit}
 use Rattle.unary.specs.declared.State.{State}
 use Rattle.unary.specs.declared.Stop.{Stop}
-use Rattle.unary.specs.declared.Stop.the-variants.{InputUsed, NoRoom, NotADigit, RangeLeft, Refused}
+use Rattle.unary.specs.declared.Stop.the-variants.{InputUsed, Refused}
 use Rattle.unary.specs.declared.Next.{Next}
 use Rattle.unary.specs.declared.Next.the-variants.{Byte, End}
 use Rattle.unary.specs.declared.Kind.{Kind}

@@ -14,7 +14,7 @@ use Rattle.unary.specs.declared.Held.{Held}
 use Rattle.unary.specs.declared.Held.the-variants.{Nothing, Digit}
 use Rattle.unary.specs.declared.State.{State}
 use Rattle.unary.specs.declared.Stop.{Stop}
-use Rattle.unary.specs.declared.Stop.the-variants.{InputUsed, NoRoom, NotADigit, RangeLeft, Refused}
+use Rattle.unary.specs.declared.Stop.the-variants.{InputUsed, NoRoom, NotADigit, RangeLeft}
 use Rattle.unary.specs.declared.Next.{Next}
 use Rattle.unary.specs.declared.Next.the-variants.{Byte, End}
 use Rattle.unary.specs.declared.Kind.{Kind}

@@ -14,7 +14,6 @@ use Rattle.digits.specs.BuiltIn.{systemOf}
 use Rattle.digits.specs.declared.Admission.{Admission}
 use Rattle.unary.specs.declared.Held.{Held}
 use Rattle.unary.specs.declared.Held.the-variants.{Nothing}
-use Rattle.unary.specs.declared.Start.{Start}
 use Rattle.unary.specs.declared.Opening.the-variants.{Opens}
 use Rattle.unary.specs.State.{endNumber, openingNumber, openOf, OpeningCase}
 use Rattle.unary.specs.Run.{Ran, runOf}

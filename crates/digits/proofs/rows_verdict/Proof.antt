@@ -1,9 +1,9 @@
 -- `digits::rows_verdict` meets its contract: a search for the first row that is refused; where there is none, every interval is small enough for the cover test.
 use borrow.Author.Needs.{needs}
-use mathlib.Core.Path.{_≡_, refl, sym, ap, ap₂, _∙_}
-use mathlib.Core.Bool.{Bool, true, false, not, cond}
+use mathlib.Core.Path.{_≡_, sym, ap, ap₂, _∙_}
+use mathlib.Core.Bool.{Bool, not, cond}
 use mathlib.Core.List.{List}
-use mathlib.Core.Option.{none, some}
+use mathlib.Core.Option.{none}
 use Prim.Native.Nat.{ℕ, _-_, _≤_}
 use native.Mathlib.Nat.{sub-zero}
 use native.Mathlib.Omega.{arith}
@@ -12,7 +12,7 @@ use lib.IntN.{ℤ}
 use denote.Ref.{now}
 use Rattle.digits.specs.declared.Admission.the-variants.{Admitted, Uncovered}
 use Rattle.digits.specs.First.{first}
-use Rattle.digits.specs.Admission.{refusalNumber, refused?, rowVerdict, verdictOfRow, covered?, firstVerdict, rowsVerdict}
+use Rattle.digits.specs.Admission.{refusalNumber, refused?, rowVerdict, verdictOfRow, firstVerdict, rowsVerdict}
 use Rattle.digits.proofs.First.{hit, miss, over, first-none}
 use Rattle.digits.proofs.AdmittedSays.{digit-says, small}
 use Rattle.digits.proofs.rows_verdict.Statement.{statement}

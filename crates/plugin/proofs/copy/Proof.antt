@@ -1,10 +1,9 @@
 -- `plugin::copy` meets its contract. The invariant: the first i numbers are copied, and the rest stands as it was.
 use borrow.Author.Needs.{needs}
 use mathlib.Core.Path.{_≡_, refl, ap, ap₂, _∙_}
-use mathlib.Core.List.{List, _++_}
+use mathlib.Core.List.{_++_}
 use Prim.Native.Nat.{ℕ, _+_, _-_, _≤_}
 use native.Mathlib.Omega.{arith}
-use lib.IntN.{ℤ}
 use lib.ListN.{length, take, drop, set, length-set}
 use mir.Facts.{toZ-ofZ}
 use denote.Ref.{now}

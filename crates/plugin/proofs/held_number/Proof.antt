@@ -1,7 +1,6 @@
 -- `plugin::held_number` meets its contract, by the two cases of what is held.
 use borrow.Author.Needs.{needs}
-use mathlib.Core.Path.{_≡_, sym, ap, _∙_}
-use native.Mathlib.Omega.{arith}
+use mathlib.Core.Path.{sym, ap, _∙_}
 use Rattle.whole.proofs.Machine.{unsigned}
 use Rattle.plugin.specs.Numbers.{heldNumber}
 use Rattle.plugin.proofs.held_number.Statement.{statement}

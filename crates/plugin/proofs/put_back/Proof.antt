@@ -1,10 +1,7 @@
 -- `plugin::put_back` meets its contract: by whether the run was refused.
 use borrow.Author.Needs.{needs}
-use mathlib.Core.Path.{_≡_, sym, ap, _∙_}
-use mathlib.Core.Bool.{Bool, cond}
-use lib.IntN.{ℤ}
-use denote.Ref.{now}
-use Rattle.plugin.specs.Numbers.{stateNumbers, stateAfter}
+use mathlib.Core.Path.{sym, _∙_}
+use Rattle.plugin.specs.Numbers.{stateAfter}
 use Rattle.plugin.proofs.put_back.Statement.{statement}
 use Rattle.plugin.proofs.put_back.Tie as tie
 

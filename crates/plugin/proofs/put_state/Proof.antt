@@ -1,6 +1,6 @@
 -- `plugin::put_state` meets its contract: five numbers that fit, into a slice of five.
 use borrow.Author.Needs.{needs}
-use mathlib.Core.Path.{_≡_, _∙_}
+use mathlib.Core.Path.{_∙_}
 use native.Mathlib.Omega.{arith}
 use lib.ListN.{length-set}
 use denote.Ref.{now}

@@ -1,5 +1,4 @@
 -- `plugin::read_lengths` meets its contract, test by test.
-use borrow.Author.Needs.{needs}
 use borrow.Author.Tests.{eq-eqb, ne-eqb}
 use Rattle.plugin.proofs.read_lengths.Statement.{statement}
 use Rattle.plugin.proofs.read_lengths.Tie as tie

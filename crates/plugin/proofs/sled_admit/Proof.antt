@@ -1,11 +1,8 @@
 -- `plugin::sled_admit` meets its contract: whole rows are judged, and any others refused by 40.
 use borrow.Author.Needs.{needs}
-use mathlib.Core.Path.{_≡_, sym, ap, _∙_}
-use mathlib.Core.Bool.{Bool, cond}
-use denote.Ref.{now}
+use mathlib.Core.Path.{ap, _∙_}
 use borrow.Author.Tests.{eq-eqb, ne-eqb}
 use Rattle.digits.specs.Admission.{refusalNumber}
-use Rattle.plugin.specs.Numbers.{systemFrom}
 use Rattle.plugin.specs.Calls.{admitted, admitNumber}
 use Rattle.plugin.proofs.sled_admit.Statement.{statement}
 use Rattle.plugin.proofs.sled_admit.Tie as tie

@@ -1,18 +1,13 @@
 -- `plugin::sled_open` meets its contract: slices of the wrong length, the two refusals, and the opened state, written as five numbers.
 use borrow.Author.Needs.{needs}
 use mathlib.Core.Path.{_≡_, sym, ap, _∙_}
-use mathlib.Core.List.{List}
-use Prim.Native.Nat.{ℕ}
-use lib.ListN.{length}
-use lib.IntN.{ℤ}
 use denote.Ref.{now}
 use Rattle.whole.proofs.Machine.{ok-back}
 use Rattle.plane.proofs.Words.{entries}
 use Rattle.unary.specs.declared.Opening.{Opening}
 use Rattle.unary.specs.declared.Start.{Start}
 use Rattle.unary.specs.State.{openOf}
-use Rattle.plugin.specs.Numbers.{stateNumbers}
-use Rattle.plugin.specs.Calls.{wrote, startNumbers, opened, openCall, fourOf}
+use Rattle.plugin.specs.Calls.{wrote, startNumbers, opened, openCall}
 use Rattle.plugin.proofs.Laws.{open-shut-matrix, open-shut-state, opens}
 use Rattle.plugin.proofs.sled_open.Statement.{statement}
 use Rattle.plugin.proofs.sled_open.Tie as tie

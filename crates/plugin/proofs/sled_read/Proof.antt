@@ -1,17 +1,12 @@
 -- `plugin::sled_read` meets its contract: slices of the wrong length, a refused file, and a job, written as numbers.
 use borrow.Author.Needs.{needs}
-use mathlib.Core.Path.{_≡_, refl, sym, ap, _∙_}
-use mathlib.Core.Bool.{Bool, true}
-use mathlib.Core.List.{List, [], _∷_}
+use mathlib.Core.Path.{_≡_, sym, ap, _∙_}
+use mathlib.Core.Bool.{true}
 use Prim.Native.Nat.{ℕ}
-use lib.ListN.{length}
-use lib.IntN.{ℤ}
 use denote.Ref.{now}
 use borrow.Author.Tests.{not-true, not-false}
 use Rattle.jobs.specs.declared.Verdict.{Verdict}
 use Rattle.jobs.specs.declared.Reading.{Reading}
-use Rattle.jobs.specs.Reading.{readOf}
-use Rattle.plugin.specs.Calls.{fourOf}
 use Rattle.plugin.specs.Read.{leftRead, verdictCall, readingCall, readLengths?, readCall}
 use Rattle.plugin.proofs.Laws.{read-shut, reads, ReadLengths, read-lengths}
 use Rattle.plugin.proofs.sled_read.Statement.{statement}

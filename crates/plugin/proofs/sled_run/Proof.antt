@@ -1,21 +1,16 @@
 -- `plugin::sled_run` meets its contract: slices of the wrong length are refused, and what a run leaves is written back as numbers.
 use borrow.Author.Needs.{needs}
-use mathlib.Core.Path.{_≡_, refl, sym, ap, ap₂, _∙_}
-use mathlib.Core.Bool.{Bool, true}
-use mathlib.Core.List.{List}
-use Prim.Native.Nat.{ℕ}
+use mathlib.Core.Path.{_≡_, sym, ap, _∙_}
+use mathlib.Core.Bool.{true}
 use native.Mathlib.Omega.{arith}
-use lib.ListN.{length, set, length-set}
-use lib.IntN.{ℤ}
+use lib.ListN.{length, length-set}
 use denote.Ref.{now}
 use borrow.Author.Tests.{not-true, not-false}
-use Rattle.digits.specs.declared.System.{System}
-use Rattle.unary.specs.declared.State.{State}
 use Rattle.unary.specs.declared.Answer.{Answer}
 use Rattle.unary.specs.State.{endNumber}
 use Rattle.unary.specs.Run.{Ran, runOf}
 use Rattle.plugin.specs.Numbers.{systemFrom, stateFrom, stateAfter}
-use Rattle.plugin.specs.Calls.{left, ranCall, runLengths?, runCall}
+use Rattle.plugin.specs.Calls.{left, runLengths?}
 use Rattle.plugin.proofs.Lists.{two}
 use Rattle.plugin.proofs.Laws.{run-shut, runs, state-five, counts-two}
 use Rattle.plugin.proofs.sled_run.Statement.{statement}

@@ -1,9 +1,7 @@
 -- `plugin::sled_system_d` meets its contract: of the 16 rows of D in memory, the first 4 are handed out.
 use borrow.Author.Needs.{needs}
-use mathlib.Core.Path.{_≡_, refl, sym, ap, subst, _∙_}
-use mathlib.Core.List.{List}
+use mathlib.Core.Path.{refl, sym, ap, subst, _∙_}
 use Prim.Native.Nat.{_*_, _≤_}
-use lib.IntN.{ℤ}
 use lib.ListN.{length, take}
 use denote.Ref.{now}
 use borrow.Author.Tests.{leb-true}

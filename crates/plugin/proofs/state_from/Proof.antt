@@ -1,7 +1,6 @@
 -- `plugin::state_from` meets its contract: an i64 holds each of the five numbers.
 use borrow.Author.Needs.{needs}
-use mathlib.Core.Path.{_≡_, ap, _∙_}
-use lib.IntN.{ℤ}
+use mathlib.Core.Path.{ap, _∙_}
 use Rattle.whole.proofs.Machine.{ok-back}
 use Rattle.plane.proofs.Words.{entries}
 use Rattle.plugin.specs.Numbers.{heldFrom, stateFrom}

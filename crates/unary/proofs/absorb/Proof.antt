@@ -1,11 +1,9 @@
 -- `unary::absorb` meets its contract: line 5 of a step.
 use borrow.Author.Needs.{needs}
-use mathlib.Core.Path.{_≡_, sym, ap, subst, _∙_}
+use mathlib.Core.Path.{sym, ap, subst, _∙_}
 use mathlib.Core.List.{List}
 use lib.IntN.{ℤ}
-use denote.Ref.{now}
 use Rattle.plane.specs.Plane.{cancelOf, multiplyOf}
-use Rattle.unary.specs.declared.State.{State}
 use Rattle.unary.specs.declared.Held.the-variants.{Nothing}
 use Rattle.unary.specs.declared.Kind.the-variants.{Absorb}
 use Rattle.unary.specs.Step.{ranged}

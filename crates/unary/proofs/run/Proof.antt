@@ -5,7 +5,7 @@ use Prim.Native.Nat.{ℕ}
 use native.Mathlib.Omega.{arith}
 use denote.Ref.{now}
 use Rattle.unary.specs.declared.Stop.the-variants.{Refused}
-use Rattle.unary.specs.Run.{Ran, stopped, systems, refusalOf, runOf, stepsOf}
+use Rattle.unary.specs.Run.{Ran, stopped, systems, refusalOf}
 use Rattle.unary.proofs.Judged.{accepted-ready, run-accepted, refused-untouched}
 use Rattle.unary.proofs.run.Statement.{statement}
 use Rattle.unary.proofs.run.Tie as tie

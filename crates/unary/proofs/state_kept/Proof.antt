@@ -1,7 +1,7 @@
 -- `unary::state_kept` meets its contract: the tests of `state?` in their order, and what a later one needs has passed those before.
 use borrow.Author.Needs.{needs}
 use borrow.Author.Tests.{not-true, not-false, eq-eqb, ne-eqb}
-use mathlib.Core.Path.{_≡_, sym, ap, _∙_}
+use mathlib.Core.Path.{_≡_, sym, _∙_}
 use mathlib.Core.Bool.{true}
 use Rattle.plane.proofs.Words.{above}
 use Rattle.plane.proofs.Ranges.{within-products}
