@@ -13,7 +13,8 @@ use Rattle.whole.proofs.Test.{true-lt, false-lt}
 use Rattle.plane.specs.Plane.{determinantOf}
 use Rattle.digits.specs.Admission.{within?}
 use Rattle.digits.proofs.RowSays.{within-says, says-within, false-by}
-use Rattle.jobs.specs.Reading.{countOf, numbersAt, systemOf, systemSize, systemRefused, systemJudged, systemSection, matrixRefused, matrixJudged, matrixSection, wordNumber}
+use Rattle.jobs.specs.Reading.{countOf, numbersAt, systemOf, systemSize, systemRefused, systemJudged, systemSection}
+use Rattle.jobs.specs.Reading.{matrixRefused, matrixJudged, matrixSection, wordNumber}
 
 module _ (bytes : List ℕ) where
   -- ---- a system

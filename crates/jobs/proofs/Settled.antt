@@ -15,7 +15,8 @@ use Rattle.digits.specs.BuiltIn.{filled}
 use Rattle.digits.specs.declared.System.{System}
 use Rattle.jobs.specs.declared.Verdict.the-variants.{Reads}
 use Rattle.jobs.specs.declared.Reading.{Reading}
-use Rattle.jobs.specs.Reading.{countOf, signed, numbersAt, systemOf, systemSize, systemJudged, systemSection, matrixJudged, matrixSection, wordNumber, judged, wordRead, matrixRead, outputRead, readOf}
+use Rattle.jobs.specs.Reading.{countOf, signed, numbersAt, systemOf, systemSize, systemJudged, systemSection}
+use Rattle.jobs.specs.Reading.{matrixJudged, matrixSection, wordNumber, judged, wordRead, matrixRead, outputRead, readOf}
 use Rattle.jobs.proofs.Sections.{system-none, system-many, system-whole, matrix-wrong-count, matrix-whole, word-wrong-count, word-bytes-follow}
 use Rattle.jobs.proofs.Ways.{le-or-lt, SystemWay, system-way, MatrixWay, matrix-way, WordWay, word-way, system-present}
 

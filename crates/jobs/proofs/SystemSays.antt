@@ -71,7 +71,9 @@ system-says bytes h = elim (system-way bytes) [
   | SystemWay.cut-off l some few s ↦
       subst (Says bytes) (sym (system-cut-off bytes l some few s)) (BreaksSystem.cut-off (counted h l) some few (omega (arith, length-drop 2 bytes)))
   | SystemWay.whole some few fits ↦
-      subst (Says bytes) (sym (system-whole bytes some few fits)) (by-verdict h some few fits (admissionOf (systemOf bytes .count) (systemOf bytes .rows)) (admitted-says (systemOf bytes .count) (systemOf bytes .rows)))
+      let s = systemOf bytes in
+      subst (Says bytes) (sym (system-whole bytes some few fits))
+      (by-verdict h some few fits (admissionOf (s .count) (s .rows)) (admitted-says (s .count) (s .rows)))
 ]
 
 -- ---- and back: where a sentence holds, its number is given

@@ -14,7 +14,8 @@ use Rattle.jobs.specs.Reading.{countOf, systemOf, systemSize, systemSect
 use Rattle.jobs.specs.declared.Reading.{Reading}
 use Rattle.jobs.specs.declared.SystemSection.{SystemSection}
 use Rattle.jobs.specs.declared.MatrixSection.{MatrixSection}
-use Rattle.jobs.proofs.Sections.{system-no-count, system-none, system-many, system-cut-off, system-whole, matrix-no-count, matrix-wrong-count, matrix-cut-off, word-no-count, word-wrong-count, word-cut-off, word-bytes-follow}
+use Rattle.jobs.proofs.Sections.{system-no-count, system-none, system-many, system-cut-off, system-whole}
+use Rattle.jobs.proofs.Sections.{matrix-no-count, matrix-wrong-count, matrix-cut-off, word-no-count, word-wrong-count, word-cut-off, word-bytes-follow}
 
 pub le-or-lt : (a b : ℕ) → (a ≤ b) ⊎ (b < a)
 le-or-lt a b = by (leb a b) refl

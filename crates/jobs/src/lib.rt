@@ -3,7 +3,8 @@ ghost use mathlib.Core.Path.{_≡_};
 ghost use Prim.Native.Nat.{_+_, _*_, _<_, _≤_};
 ghost use lib.ListN.{length};
 ghost use Rattle.digits.specs.BuiltIn.{filled};
-ghost use Rattle.jobs.specs.Reading.{pairAt, numberAt, numbersAt, systemRefused, systemSection, matrixRefused, matrixSection, wordNumber, refused as refusedOf, wordRead, matrixRead, outputRead, readOf};
+ghost use Rattle.jobs.specs.Reading.{pairAt, numberAt, numbersAt, systemRefused, systemSection, matrixRefused};
+ghost use Rattle.jobs.specs.Reading.{matrixSection, wordNumber, refused as refusedOf, wordRead, matrixRead, outputRead, readOf};
 use digits::System;
 
 // Where the word stands in the file: its bytes stay there, and are not tested here.

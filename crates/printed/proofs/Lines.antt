@@ -34,7 +34,8 @@ module _ {ds out₀ out : List ℕ} {p₀ p i : ℕ} (w : Written ds out₀ p₀
         written = put-put (w .inside) (w .written) q;
         fields =
             ap (λ (r : List ℕ). 32 ∷ r) (append-assoc (decimal d) (w .done) (10 ∷ []) ∙ ap (λ (r : List ℕ). decimal d ++ r) (w .fields)) ∙
-            ap (λ (k : ℕ). behind (map decimal (d ∷ drop k ds))) (sym e) ∙ ap (λ (l : List ℕ). behind (map decimal l)) (sym (drop-cons ds (i - 1) 0 (omega (arith, w .few))));
+            ap (λ (k : ℕ). behind (map decimal (d ∷ drop k ds))) (sym e) ∙
+            ap (λ (l : List ℕ). behind (map decimal l)) (sym (drop-cons ds (i - 1) 0 (omega (arith, w .few))));
         few = omega (arith, w .few);
         some = λ k. omega arith;
         room = omega (arith, w .room);

@@ -6,7 +6,8 @@ ghost use Prim.Native.Nat.{_+_, _*_, _%_, _≤_};
 ghost use lib.ListN.{length};
 ghost use Rattle.printed.specs.Place.{Put, Room};
 ghost use Rattle.unary.specs.State.{endNumber};
-ghost use Rattle.printed.specs.Text.{glyph, decimal, signedText, heldText, countsLine, stateLine, digitsLine, answerText, refusedText, printed, filledBy};
+ghost use Rattle.printed.specs.Text.{glyph, decimal, signedText, heldText, countsLine, stateLine, digitsLine, answerText, refusedText};
+ghost use Rattle.printed.specs.Responds.{Responds};
 use jobs::Verdict;
 use unary::Answer;
 use unary::Held;
@@ -176,10 +177,11 @@ fn put_refusal(out: &mut [u8], number: u8, section: u8) -> usize
     put(out, e, 114)
 }
 
-// Answers a job file: reads it, opens its matrix, runs its word into `digits`, and writes what the program prints at the end of `out`, from the place that is handed back on.
+// Answers a job file: reads it, opens its matrix, runs its word into `digits`, and writes what the program prints at the end of `out`, from the place on that is
+// handed back.
 pub fn respond(file: &[u8], digits: &mut [u8], out: &mut [u8]) -> usize
     requires { ⌜ (length (now digits) ≤ 8192) × (40000 ≤ length (now out)) ⌝ }
-    ensures { λ r. ⌜ (Put (now (out .entry)) (length (now (out .entry))) (printed (now (file .entry)) (now (digits .entry))) (now (out .exit)) r) × (now (digits .exit) ≡ filledBy (now (file .entry)) (now (digits .entry))) ⌝ }
+    ensures { λ r. ⌜ Responds (now (file .entry)) (now (digits .entry)) (now (digits .exit)) (now (out .entry)) (now (out .exit)) r ⌝ }
 {
     let reading = jobs::read(file);
     let verdict = reading.verdict;

@@ -13,8 +13,8 @@ returns : tie.Need-returns
 unfolding matrixRead
 returns c =
     let w = c .before .before in
-    c .refused .ensures ∙
-    refused-here 2 (matrixSection (now (w .before .before .args .bytes)) .number) _ (ap (λ (s : MatrixSection). s .number) (w .matrix-section .ensures)) (c .before .if1 .taken)
+    let number = ap (λ (s : MatrixSection). s .number) (w .matrix-section .ensures) in
+    c .refused .ensures ∙ refused-here 2 (matrixSection (now (w .before .before .args .bytes)) .number) _ number (c .before .if1 .taken)
 
 -- the matrix's number is 0
 zero : (c : tie.Else1) → matrixSection (now (c .before .before .before .args .bytes)) .number ≡ 0

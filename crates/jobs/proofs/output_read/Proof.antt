@@ -16,8 +16,8 @@ returns : tie.Need-returns
 unfolding outputRead
 returns c =
     let w = c .before .before in
-    c .refused .ensures ∙
-    refused-here 1 (systemSection (now (w .before .before .args .bytes)) .number) _ (ap (λ (s : SystemSection). s .number) (w .system-section .ensures)) (c .before .if1 .taken)
+    let number = ap (λ (s : SystemSection). s .number) (w .system-section .ensures) in
+    c .refused .ensures ∙ refused-here 1 (systemSection (now (w .before .before .args .bytes)) .number) _ number (c .before .if1 .taken)
 
 -- the system's number is 0
 passed : (c : tie.Else1) → SystemPassed (now (c .before .before .before .args .bytes)) (c .before .system-section .result)

@@ -34,7 +34,10 @@ loop-again c =
     )
 
 returns : tie.Need-returns Inv-loop μ-loop
-returns c = let e : c .before .loop .i ≡ c .before .before .before .args .k = omega arith in c .before .loop .inv .1 ∙ ap (λ (i : ℕ). filled (numbersAt (now (c .before .before .before .args .bytes)) 2 i)) e
+returns c =
+    let a = c .before .before .before .args in
+    let e : c .before .loop .i ≡ a .k = omega arith in
+    c .before .loop .inv .1 ∙ ap (λ (i : ℕ). filled (numbersAt (now (a .bytes)) 2 i)) e
 
 pub rows-in-spec : {M : Type 1} → statement M
 rows-in-spec =

@@ -15,7 +15,8 @@ returns-4 : tie.Need-returns-4
 returns-4 c =
     let p = c .before .before .before .before in
     let b = now (p .before .before .before .args .bytes) in
-    c .no-system4 .ensures ∙ sym (system-cut-off b (omega arith) (omega (arith, p .pair-at .ensures)) (omega (arith, p .pair-at .ensures)) (omega (arith, p .pair-at .ensures)))
+    let n = p .pair-at .ensures in
+    c .no-system4 .ensures ∙ sym (system-cut-off b (omega arith) (omega (arith, n)) (omega (arith, n)) (omega (arith, n)))
 
 returns-5 : tie.Need-returns-5
 unfolding systemOf

@@ -62,7 +62,8 @@ returns c =
     let file = now (s .args .file) in
     let job = readOf file .job in
     let e = sym (ap (λ (a : Reading). a .verdict) (r .read .ensures)) ∙ v .verdict .given .1 in
-    (put-as (sym (ap (printedBy file job (now (s .args .digits))) e)) (q .put-refusal .ensures), sym (ap (filledOn file job (now (s .args .digits))) e))
+    let digits = now (s .args .digits) in
+    record { text = put-as (sym (ap (printedBy file job digits) e)) (q .put-refusal .ensures); digits = sym (ap (filledOn file job digits) e) }
 
 put-answer-requires : tie.Need-put-answer-requires
 put-answer-requires c κs =
@@ -87,10 +88,11 @@ returns-2 c =
     let s = v .before .before .before .before .before .before .before in
     let file = now (s .args .file) in
     let job = readOf file .job in
-    let digits = now (s .args .digits) in (
-      put-as (ap₂ answerText (ran x .0) (ran x .1) ∙ sym (ap (printedBy file job digits) (verdict v))) (q .put-answer .ensures),
-      ran x .1 ∙ sym (ap (filledOn file job digits) (verdict v)),
-    )
+    let digits = now (s .args .digits) in
+    record {
+      text = put-as (ap₂ answerText (ran x .0) (ran x .1) ∙ sym (ap (printedBy file job digits) (verdict v))) (q .put-answer .ensures);
+      digits = ran x .1 ∙ sym (ap (filledOn file job digits) (verdict v));
+    }
 
 pub respond-spec : {M : Type 1} → statement M
 respond-spec =
