@@ -113,8 +113,8 @@ uint32_t sled_system_d(int16_t *rows, size_t length);
                             the output system has, found[2] where the word starts in the file, and found[3] how many digits it has. So what is run is
                             sled_run(ins, SLED_ROW * found[0], outs, SLED_ROW * found[1], .., file + found[2], found[3], ..), and sled_open does not refuse the matrix.
      SLED_REFUSED_LENGTH    a length is wrong. Nothing is written.
-     any other              SLED_NUMBER(answer) is the refusal: COUNT, RANGE, MAP, INTERVAL, LOWEST, GAP, MATRIX, SHORT, LONG, FOUR or WORD. SLED_SECTION(answer) is the section
-                            where it was met. Nothing is written. */
+     any other              SLED_NUMBER(answer) is the refusal: COUNT, RANGE, MAP, INTERVAL, LOWEST, GAP, MATRIX, SHORT, LONG, FOUR or WORD, and SLED_SECTION(answer)
+                            the section where it was met. Nothing is written. */
 uint32_t sled_read(const uint8_t *file, size_t file_length, int16_t *ins, size_t ins_length, int16_t *outs, size_t outs_length, int64_t *matrix, size_t matrix_length,
                    size_t *found, size_t found_length);
 
