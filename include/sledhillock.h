@@ -98,7 +98,8 @@ enum { SLED_STATE = 5, SLED_MATRIX = 4, SLED_ROW = 8, SLED_R = 32, SLED_B = 64, 
    at last GAP. Writes nothing. sled_run judges its systems itself: nobody has to ask first. */
 uint32_t sled_admit(const int16_t *rows, size_t length);
 
-/* The rows of a built-in system: R (the regular continued fractions of the sources, 4 digits), B (the bimodular system, 8 digits), D (binary signed digits, 4 digits).
+/* The rows of a built-in system: R (4 digits, close to continued fractions: the word 1..1 0..0 1..1 .. with runs of a, b, c, .. names [a, b, c, ..]; digits 2 and 3 are for
+   negative numbers), B (8 digits, the bimodular system with its maximal cover) and D (4 digits, binary redundant).
    length has to be SLED_R, SLED_B or SLED_D. Answers 0 and writes all the numbers; or SLED_REFUSED_LENGTH, and writes nothing. */
 uint32_t sled_system_r(int16_t *rows, size_t length);
 uint32_t sled_system_b(int16_t *rows, size_t length);
@@ -113,8 +114,8 @@ uint32_t sled_system_d(int16_t *rows, size_t length);
                             the output system has, found[2] where the word starts in the file, and found[3] how many digits it has. So what is run is
                             sled_run(ins, SLED_ROW * found[0], outs, SLED_ROW * found[1], .., file + found[2], found[3], ..), and sled_open does not refuse the matrix.
      SLED_REFUSED_LENGTH    a length is wrong. Nothing is written.
-     any other              SLED_NUMBER(answer) is the refusal: COUNT, RANGE, MAP, INTERVAL, LOWEST, GAP, MATRIX, SHORT, LONG, FOUR or WORD. SLED_SECTION(answer) is the section
-                            where it was met. Nothing is written. */
+     any other              SLED_NUMBER(answer) is the refusal: COUNT, RANGE, MAP, INTERVAL, LOWEST, GAP, MATRIX, SHORT, LONG, FOUR or WORD, and SLED_SECTION(answer)
+                            the section where it was met. Nothing is written. */
 uint32_t sled_read(const uint8_t *file, size_t file_length, int16_t *ins, size_t ins_length, int16_t *outs, size_t outs_length, int64_t *matrix, size_t matrix_length,
                    size_t *found, size_t found_length);
 

@@ -23,5 +23,6 @@ pub one-run : (ins outs : List ℤ) (input : List ℕ) (old : List ℤ) (output 
     x ≡ runCall ins outs input old output counts → y ≡ runCall ins outs input old output counts → x ≡ y
 one-run ins outs input old output counts x y p q = p ∙ sym q
 
-pub one-reading : (file : List ℕ) (ins outs m : List ℤ) (found : List ℕ) (x y : ReadCall) → x ≡ readCall file ins outs m found → y ≡ readCall file ins outs m found → x ≡ y
+pub one-reading : (file : List ℕ) (ins outs m : List ℤ) (found : List ℕ) (x y : ReadCall) →
+    x ≡ readCall file ins outs m found → y ≡ readCall file ins outs m found → x ≡ y
 one-reading file ins outs m found x y p q = p ∙ sym q
