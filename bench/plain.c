@@ -13,7 +13,10 @@ static inline u64 gcd(u64 a, u64 b) {
     return a;
 }
 
-static inline u64 gcd_of_4(i64 a, i64 b, i64 c, i64 d) { return gcd(gcd(magnitude(a), magnitude(b)), gcd(magnitude(c), magnitude(d))); }
+static inline u64 gcd_of_4(i64 a, i64 b, i64 c, i64 d) {
+    u64 f = gcd(magnitude(a), magnitude(b));
+    return f == 1 ? 1 : gcd(f, gcd(magnitude(c), magnitude(d)));
+}
 
 static inline int within(i64 a, i64 b, i64 c, i64 d, u64 bound) {
     return magnitude(a) <= bound && magnitude(b) <= bound && magnitude(c) <= bound && magnitude(d) <= bound;

@@ -65,7 +65,7 @@ pub fn image(m: [i64; 4], w: [i64; 4]) -> [i64; 4]
     [p[0], p[2], p[1], p[3]]
 }
 
-// The greatest common divisor of the four entries, by Euclid. Of any four numbers at all.
+// The greatest common divisor of the four entries, by Euclid. Of any four numbers at all. Most often the first two settle it.
 pub fn divisor(m: [i64; 4]) -> u64
     ensures { λ r. ⌜ r ≡ gcd4 m ⌝ }
 {
@@ -73,7 +73,11 @@ pub fn divisor(m: [i64; 4]) -> u64
     let b = whole::magnitude(m[1]);
     let c = whole::magnitude(m[2]);
     let d = whole::magnitude(m[3]);
-    whole::gcd(whole::gcd(a, b), whole::gcd(c, d))
+    let f = whole::gcd(a, b);
+    if f == 1 {
+        return 1;
+    }
+    whole::gcd(f, whole::gcd(c, d))
 }
 
 // "To cancel a matrix, divide it by the greatest common divisor of the four entries. Signs stay." Most products have none but 1, and are not divided.
