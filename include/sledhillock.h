@@ -9,14 +9,14 @@
         or rows of your own.
      2. Open a session for a matrix a b c d: sled_open writes a state of five numbers. They are all that is kept between calls; keep them wherever you like.
      3. Call sled_run with some input bytes, one digit a byte, and some room for output, as often as you like. It says how many bytes it took and how many digits it
-        wrote. A word fed in pieces gives the same digits as the whole word at once.
+        wrote. A word fed in pieces, each of which ends SLED_OK, gives the same digits as the whole word at once.
 
    WHAT IS PROMISED OF EVERY CALL
 
      - Test nothing first. Every call is fit for every input: it ends, and what breaks a rule is refused by a number (below). Any numbers may stand in the slices.
      - A call writes what is said of it here, and no other byte of yours, ever. It keeps nothing, allocates nothing and prints nothing; it has no state of its own, so
        that any number of threads may call it, each with its own state and buffers.
-     - What is said of a call is proved of its code, for all inputs.
+     - What is said of a call's answer and of what it writes is proved of its code, for all inputs.
 
    WHAT THE CALLER OWES
 

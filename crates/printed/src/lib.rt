@@ -1,5 +1,5 @@
-// What the program prints: document 01's section "The program". Public: `respond`, which answers a job file with its text. The rest writes numbers, fields and lines, each
-// right in front of what is written already, from the buffer's end.
+// What the program prints: document 01's section "The program". `respond` answers a job file with its text; the programs call it and lend it large enough buffers, plug-ins
+// do not. The rest writes numbers, fields and lines, each right in front of what is written already, from the buffer's end.
 ghost use mathlib.Core.Path.{_≡_};
 ghost use mathlib.Core.List.{[], _∷_};
 ghost use Prim.Native.Nat.{_+_, _*_, _%_, _≤_};
