@@ -1,14 +1,16 @@
 -- "What is kept for the digits a system hasn't got is 0 when it is read, and no answer depends on it": two lists of rows that agree at the places of the first n
--- digits have the same transformations and intervals there, and get the same admission.
+-- digits have the same transformations and intervals there, and get the same admission. Where n is more than a system can have, they need not even agree.
 --
 -- Row a of n stands at the places 8·a to 8·a + 7, all below 8·n. So each row is judged alike, the cover test meets the same intervals, and the two searches agree
 -- on every number that they pass (`first-same`).
-use mathlib.Core.Path.{_≡_, refl, _∙_, ap, ap₂}
+use mathlib.Core.Path.{_≡_, refl, sym, _∙_, ap, ap₂}
 use mathlib.Core.Bool.{Bool, not, cond, _&&_}
 use mathlib.Core.List.{List}
 use mathlib.Core.Option.{Option, none, some}
-use Prim.Native.Nat.{ℕ, _+_, _*_, _≤_, _<_}
+use Prim.Native.Nat.{ℕ, _+_, _*_, _-_, _≤_, _<_}
+use native.Mathlib.Decide.{ℕ-discrete}
 use native.Mathlib.Omega.{arith}
+use borrow.Author.Tests.{le-leb, lt-leb}
 use lib.Dec.{leb}
 use lib.ListN.{length}
 use lib.IntN.{ℤ}
@@ -62,6 +64,22 @@ module _ (n : ℕ) (r s : List ℤ) (same : (p : ℕ) → p < 8 * n → at r p �
       ap (firstVerdict s n)
       (first-same (λ a. refused? (verdictOfRow r a)) (λ a. refused? (verdictOfRow s a)) n 0 (λ a i k. ap refused? (same-verdict a (omega arith))))
 
-  pub unused-rows : admissionOf n r ≡ admissionOf n s
+  same-judged : admissionOf n r ≡ admissionOf n s
   unfolding admissionOf
-  unused-rows = ap (λ (v : Admission). cond (leb 1 n && leb n 16) v WrongCount) same-rows
+  same-judged = ap (λ (v : Admission). cond (leb 1 n && leb n 16) v WrongCount) same-rows
+
+-- two systems that agree at the places of their digits, if they can have as many
+pub record SameDigits (n : ℕ) (rows : List ℤ) (n′ : ℕ) (rows′ : List ℤ) : Type 0 where
+  pub count : n ≡ n′
+  pub numbers : n ≤ 16 → (p : ℕ) → p < 8 * n → at rows p ≡ at rows′ p
+
+too-many : (n : ℕ) (r : List ℤ) → 16 < n → admissionOf n r ≡ WrongCount
+unfolding admissionOf
+too-many n r h = rw (le-leb 1 n (omega arith), lt-leb n 16 h)
+
+pub unused-rows : {n n′ : ℕ} (r s : List ℤ) → SameDigits n r n′ s → admissionOf n r ≡ admissionOf n′ s
+unused-rows {n} r s same = by (ℕ-discrete (n - 16) 0) ∙ ap (λ (k : ℕ). admissionOf k s) (same .count)
+  where
+    by : Dec (n - 16 ≡ 0) → admissionOf n r ≡ admissionOf n s
+    by (yes e) = same-judged n r s (same .numbers (omega arith))
+    by (no f) = too-many n r (omega arith) ∙ sym (too-many n s (omega arith))

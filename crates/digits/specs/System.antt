@@ -1,10 +1,14 @@
 -- A digit system: "Digit a has a transformation F and an interval W, written as one row of eight numbers: F as a b c d, then W as x0 x1 y0 y1."
 -- Its rows stand one behind the other in one list of 16 x 8 numbers.
 use mathlib.Core.List.{List, [], _∷_}
-use Prim.Native.Nat.{ℕ, zero, suc, _+_, _*_}
-use lib.ListN.{getD, set, replicate}
+use Prim.Native.Nat.{ℕ, zero, suc, _+_, _*_, _≤_}
+use lib.ListN.{getD, set, length, replicate}
 use lib.IntN.{ℤ, pos}
 use Rattle.whole.specs.Range.{at}
+
+-- the rows of n digits are there, if a system can have as many
+pub record Rows (n : ℕ) (rows : List ℤ) : Type 0 where
+  pub there : n ≤ 16 → 8 * n ≤ length rows
 
 -- four numbers of a list, from a place on
 unfoldable pub fourAt : List ℤ → ℕ → List ℤ

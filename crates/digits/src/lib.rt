@@ -4,7 +4,7 @@ ghost use mathlib.Core.Path.{_≡_};
 ghost use Prim.Native.Nat.{_+_, _*_, _<_, _≤_};
 ghost use lib.ListN.{length};
 ghost use Rattle.whole.specs.Range.{at, Within};
-ghost use Rattle.digits.specs.System.{fourAt, putRow, putRows};
+ghost use Rattle.digits.specs.System.{Rows, fourAt, putRow, putRows};
 ghost use Rattle.digits.specs.Admission.{refusalNumber, within?, lowestEnds?, rowVerdict, goesOn?, goneOn?, covered?, Small, rowsVerdict, admissionOf};
 ghost use Rattle.digits.specs.BuiltIn.{systemOf, rowsR, rowsB, rowsD};
 
@@ -177,9 +177,9 @@ fn rows_verdict(rows: &[i16], n: usize) -> Admission
     Admission::Uncovered
 }
 
-// The judgement of a system whose rows are lent.
+// The judgement of a system whose rows are lent: as many as its count, unless that is refused.
 pub fn judged(count: usize, rows: &[i16]) -> Admission
-    requires { ⌜ 128 ≤ length (now rows) ⌝ }
+    requires { ⌜ Rows count (now rows) ⌝ }
     ensures { λ r. ⌜ r ≡ admissionOf count (now (rows .entry)) ⌝ }
 {
     if count == 0 {

@@ -15,7 +15,7 @@ use Rattle.digits.specs.Admitted.{Admissible}
 use Rattle.digits.specs.declared.System.{System}
 use Rattle.unary.specs.declared.State.{State}
 use Rattle.unary.specs.declared.Answer.{Answer}
-use Rattle.unary.specs.Run.{runBy, left, stepsOf, refusalOf, judgedOf, systems, runOf}
+use Rattle.unary.specs.Run.{runBy, left, stepsOf, refusalOf, judgedOf, lentRun, systems, runOf}
 use Rattle.meaning.specs.Names.{productOf, EachInItsInterval, UpToScale}
 use Rattle.meaning.specs.Session.{Session, Moment, held, Numbers, ProductHolds, NumbersHold, During, ScaleNamed}
 use Rattle.meaning.proofs.Steps.{opened-did}
@@ -49,7 +49,7 @@ module _ {a b : System} {m : List ℤ} where
   call-reached session r input output (suc number) = begins r
 
   pub session-moment : {taken given : List ℕ} {s : State} → Session a b m taken given s → Reached (systems a b) m taken given s
-  unfolding runOf
+  unfolding runOf lentRun
   session-moment (Session.opened i o e) =
       let o = opened-did m e in
       record { absorbed = []; moment = Moment.opened o; all-taken = ap (λ (s : State). held (s .held)) (o .becomes) }

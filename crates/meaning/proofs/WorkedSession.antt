@@ -25,7 +25,7 @@ use Rattle.unary.specs.declared.Held.the-variants.{Nothing, Digit}
 use Rattle.unary.specs.declared.State.{State}
 use Rattle.unary.specs.State.{state?, openOf}
 use Rattle.unary.specs.Step.{fittingOf, stepOf}
-use Rattle.unary.specs.Run.{runBy, stepsOf, refusalOf, runOf}
+use Rattle.unary.specs.Run.{runBy, stepsOf, refusalOf, lentRun, runOf}
 use Rattle.meaning.specs.Names.{namedFrom, productOf, EachInItsInterval, UpToScale}
 use Rattle.meaning.specs.Session.{Session}
 use Rattle.meaning.proofs.Sessions.{session-product, session-numbers}
@@ -46,17 +46,17 @@ new = Session.opened r-admitted r-admitted refl
 
 pub whole-word : SessionR (0 ∷ 0 ∷ 1 ∷ []) (0 ∷ 1 ∷ 1 ∷ []) (record { matrix = four 2 1 1 2; held = Nothing })
 unfolding systemOf admissionOf rowsVerdict rowVerdict within? gcd gcd4 gcdBy fourAt first closed? same? included? determinantOf pseudoinverseOf apply multiplyOf imageOf
-    cancelOf state? fittingOf stepOf runBy stepsOf refusalOf runOf
+    cancelOf state? fittingOf stepOf runBy stepsOf refusalOf lentRun runOf
 whole-word = Session.called new (0 ∷ 0 ∷ 1 ∷ []) (replicate 8 0)
 
 pub half-way : SessionR (0 ∷ 0 ∷ 1 ∷ []) (0 ∷ 1 ∷ []) (record { matrix = four 3 0 1 1; held = Digit 1 })
 unfolding systemOf admissionOf rowsVerdict rowVerdict within? gcd gcd4 gcdBy fourAt first closed? same? included? determinantOf pseudoinverseOf apply multiplyOf imageOf
-    cancelOf state? fittingOf stepOf runBy stepsOf refusalOf runOf
+    cancelOf state? fittingOf stepOf runBy stepsOf refusalOf lentRun runOf
 half-way = Session.called new (0 ∷ 0 ∷ 1 ∷ []) (replicate 2 0)
 
 pub two-calls : SessionR (0 ∷ 0 ∷ 1 ∷ []) (0 ∷ 1 ∷ 1 ∷ []) (record { matrix = four 2 1 1 2; held = Nothing })
 unfolding systemOf admissionOf rowsVerdict rowVerdict within? gcd gcd4 gcdBy fourAt first closed? same? included? determinantOf pseudoinverseOf apply multiplyOf imageOf
-    cancelOf state? fittingOf stepOf runBy stepsOf refusalOf runOf
+    cancelOf state? fittingOf stepOf runBy stepsOf refusalOf lentRun runOf
 two-calls = Session.called half-way [] (replicate 6 0)
 
 -- ---- the product, in plain numbers

@@ -67,9 +67,10 @@ abbrev pub verdict : ℤ → ℤ → ℤ → ℤ → Bool
 verdict p q r s =
     leZ (p *ℤ q) (pos 0) && leZ (r *ℤ s) (pos 0) && (eqb (natAbs p) 0 && eqb (natAbs s) 0 || not (leZ (p *ℤ r) (pos 0)) || not (leZ (q *ℤ s) (pos 0)))
 
-pub included-sides : (i j : List ℤ) {d : List ℤ} → d ≡ sidesOf i j → included? i j ≡ verdict (at d 0) (at d 1) (at d 2) (at d 3)
+pub included-sides : (i j : List ℤ) {d e : List ℤ} → d ≡ sidesOf (at i 0) (at i 1) j → e ≡ sidesOf (at i 2) (at i 3) j →
+    included? i j ≡ verdict (at d 0) (at d 1) (at e 0) (at e 1)
 unfolding included? same? sidesOf
-included-sides i j e =
+included-sides i j p q =
     (λ k. closed-from j (left i) k && closed-from j (right i) k &&
     (same? (left i) (left j) && same? (right i) (right j) || not (closed-to i (left j) k) || not (closed-to i (right j) k))) ∙
-    ap (λ (d : List ℤ). verdict (at d 0) (at d 1) (at d 2) (at d 3)) (sym e)
+    (λ k. verdict (at (sym p k) 0) (at (sym p k) 1) (at (sym q k) 0) (at (sym q k) 1))

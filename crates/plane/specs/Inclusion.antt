@@ -25,6 +25,6 @@ included? i j =
     closed? j (left i) && closed? j (right i) &&
     (same? (left i) (left j) && same? (right i) (right j) || not (closed? i (left j)) || not (closed? i (right j)))
 
--- the four determinants on which the whole test depends, of I = (x, y) and J = (u, v): det(x, u), det(x, v), det(y, u), det(y, v)
-unfoldable pub sidesOf : List ℤ → List ℤ → List ℤ
-sidesOf i j = det (left i) (left j) ∷ det (left i) (right j) ∷ det (right i) (left j) ∷ det (right i) (right j) ∷ []
+-- the two determinants of an end (x0, x1) of I with the ends of J = (u, v): det(x, u) and det(x, v). The whole test depends on those of I's two ends.
+unfoldable pub sidesOf : ℤ → ℤ → List ℤ → List ℤ
+sidesOf x0 x1 j = det (record { z0 = x0; z1 = x1 }) (left j) ∷ det (record { z0 = x0; z1 = x1 }) (right j) ∷ []

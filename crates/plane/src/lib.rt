@@ -97,16 +97,14 @@ pub fn cancel(m: [i64; 4]) -> [i64; 4]
     ]
 }
 
-// The four determinants on which inclusion depends: det(x, u), det(x, v), det(y, u), det(y, v) of I = (x, y) and J = (u, v).
-pub fn sides(i: [i64; 4], j: [i64; 4]) -> [i64; 4]
-    requires { ⌜ (Within 200000000000 i) × (Within 100 j) ⌝ }
-    ensures { λ r. ⌜ r ≡ sidesOf i j ⌝ }
+// The two determinants of an end x of I with the ends of J = (u, v): det(x, u), det(x, v).
+fn sides(x0: i64, x1: i64, j: [i64; 4]) -> [i64; 2]
+    requires { ⌜ (Near 200000000000 x0) × (Near 200000000000 x1) × (Within 100 j) ⌝ }
+    ensures { λ r. ⌜ r ≡ sidesOf x0 x1 j ⌝ }
 {
     [
-        determinant([i[0], i[1], j[0], j[1]]),
-        determinant([i[0], i[1], j[2], j[3]]),
-        determinant([i[2], i[3], j[0], j[1]]),
-        determinant([i[2], i[3], j[2], j[3]]),
+        determinant([x0, x1, j[0], j[1]]),
+        determinant([x0, x1, j[2], j[3]]),
     ]
 }
 
@@ -123,20 +121,22 @@ pub fn apart(p: i64, q: i64) -> bool
     true
 }
 
-// Whether an image I is included in a digit's interval J. With p, q, r, s the four determinants: an end of I is in closed J where p·q, or r·s, is 0 or below; an end of J
-// is in closed I where p·r, or q·s, is; left ends are one point where p is 0, and right ends where s is.
+// Whether an image I is included in a digit's interval J. With p, q of I's left end and r, s of its right end: an end of I is in closed J where p·q, or r·s, is 0 or
+// below; an end of J is in closed I where p·r, or q·s, is; left ends are one point where p is 0, and right ends where s is. Most images are left out by their left end,
+// so r and s are formed behind that test.
 pub fn included(i: [i64; 4], j: [i64; 4]) -> bool
     requires { ⌜ (Within 200000000000 i) × (Within 100 j) ⌝ }
     ensures { λ r. ⌜ r ≡ included? i j ⌝ }
 {
-    let d = sides(i, j);
-    let p = d[0];
-    let q = d[1];
-    let r = d[2];
-    let s = d[3];
+    let x = sides(i[0], i[1], j);
+    let p = x[0];
+    let q = x[1];
     if !apart(p, q) {
         return false;
     }
+    let y = sides(i[2], i[3], j);
+    let r = y[0];
+    let s = y[1];
     if !apart(r, s) {
         return false;
     }

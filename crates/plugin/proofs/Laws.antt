@@ -77,6 +77,9 @@ all true false c d e = absurd (omega (arith, ap count e))
 all false b c d e = absurd (omega (arith, ap count e))
 
 module _ (ins outs old : List ℤ) (counts : List ℕ) (right : runLengths? ins outs old counts ≡ true) where
+  pub both-rows : (rows? ins ≡ true) × (rows? outs ≡ true)
+  both-rows = let e = all (rows? ins) (rows? outs) (eqb (length old) 5) (eqb (length counts) 2) right in (e .first, e .second)
+
   pub state-five : length old ≡ 5
   state-five = eqb-true (length old) 5 (all (rows? ins) (rows? outs) (eqb (length old) 5) (eqb (length counts) 2) right .third)
 

@@ -1,23 +1,17 @@
 -- Lists of a known length, written place by place.
-use mathlib.Core.Path.{_≡_, ap, _∙_}
+use mathlib.Core.Path.{_≡_}
 use mathlib.Core.List.{List, [], _∷_, _++_}
-use Prim.Native.Nat.{ℕ, zero, suc, _+_, _-_, _<_}
+use Prim.Native.Nat.{ℕ, _+_, _<_}
 use native.Mathlib.Omega.{arith}
 use native.Mathlib.Nat.{zero-add}
 use native.Mathlib.Numerals.{add-one}
 use lib.IntN.{ℤ, pos}
-use lib.ListN.{length, take, drop, set, getD, replicate}
+use lib.ListN.{length, take, drop, set, getD}
 use lib.Seq.{paste-suc}
 
 -- a copy of i numbers and one more
 pub copied : (d s : List ℤ) (i : ℕ) → i < length d → i < length s → set (take i s ++ drop i d) i (getD s i (pos 0)) ≡ take (i + 1) s ++ drop (i + 1) d
 copied d s i hd hs = rw add-one (simp zero-add at (paste-suc d 0 s i (pos 0) (simp zero-add hd) hs))
-
--- 0 behind the first k of n
-pub drop-replicate : (k n : ℕ) (z : ℤ) → drop k (replicate n z) ≡ replicate (n - k) z
-drop-replicate zero n z = let e : n ≡ n - 0 = omega arith in ap (λ (m : ℕ). replicate m z) e
-drop-replicate (suc k) zero z = let e : 0 ≡ 0 - suc k = omega arith in ap (λ (m : ℕ). replicate m z) e
-drop-replicate (suc k) (suc n) z = let e : n - k ≡ suc n - suc k = omega arith in drop-replicate k n z ∙ ap (λ (m : ℕ). replicate m z) e
 
 -- five numbers written into a slice of five, each equal to what is to stand there
 pub five : (l : List ℤ) {a b c d e a′ b′ c′ d′ e′ : ℤ} → length l ≡ 5 → a ≡ a′ → b ≡ b′ → c ≡ c′ → d ≡ d′ → e ≡ e′ →

@@ -8,8 +8,8 @@ ghost use lib.Dec.{eqb};
 ghost use lib.ListN.{length, take, drop};
 ghost use mathlib.Core.Bool.{_&&_};
 ghost use Rattle.digits.specs.BuiltIn.{joined, rowsR, rowsB, rowsD};
-ghost use Rattle.unary.specs.State.{endNumber, openingNumber};
-ghost use Rattle.plugin.specs.Numbers.{rows?, systemFrom, heldNumber, stateNumbers, heldFrom, stateFrom, refused?, stateAfter};
+ghost use Rattle.unary.specs.State.{openingNumber};
+ghost use Rattle.plugin.specs.Numbers.{rows?, heldNumber, stateNumbers, heldFrom, stateFrom, refused?, stateAfter};
 ghost use Rattle.plugin.specs.Calls.{admitNumber, wrote, handedOut, fourOf, openCall, left, runCall};
 ghost use Rattle.plugin.specs.Read.{leftRead, readCall};
 use digits::System;
@@ -34,20 +34,6 @@ fn copy(from: &[i16], to: &mut [i16], n: usize)
         to[i] = from[i];
         i += 1;
     }
-}
-
-// The system that rows stand for.
-fn system_from(rows: &[i16]) -> System
-    ensures { λ r. ⌜ r ≡ systemFrom (now (rows .entry)) ⌝ }
-{
-    let count = rows.len() / 8;
-    let n = rows.len();
-    let mut all = [0i16; 128];
-    if 128 < n {
-        return System { count, rows: all };
-    }
-    copy(rows, &mut all, n);
-    System { count, rows: all }
 }
 
 // What the fifth number of a state stands for.
@@ -125,19 +111,6 @@ fn put_back(stop: Stop, s: State, five: &mut [i64])
     put_state(s, five);
 }
 
-// Document 01's number for each way in which a run stops.
-fn end_number(stop: Stop) -> u32
-    ensures { λ r. ⌜ r ≡ endNumber stop ⌝ }
-{
-    match stop {
-        Stop::InputUsed => 0,
-        Stop::NoRoom => 20,
-        Stop::NotADigit => 21,
-        Stop::RangeLeft => 22,
-        Stop::Refused(number) => number as u32,
-    }
-}
-
 // The rows of a built-in system of at most 16 digits, into a slice of exactly as many numbers.
 fn hand_out(s: System, rows: &mut [i16]) -> u32
     requires { ⌜ (s .count ≤ 16) × (8 * s .count ≤ length (s .rows)) ⌝ }
@@ -160,7 +133,7 @@ pub extern "C" fn sled_admit(rows: &[i16]) -> u32
     if rows.len() % 8 != 0 {
         return WRONG_LENGTH;
     }
-    digits::refusal_number(digits::admit(system_from(rows))) as u32
+    digits::refusal_number(digits::judged(rows.len() / 8, rows)) as u32
 }
 
 // The built-in system R: 32 numbers.
@@ -244,13 +217,13 @@ pub extern "C" fn sled_run(
         return WRONG_LENGTH;
     }
     let s = state_from(state);
-    let a = unary::run(system_from(ins), system_from(outs), s, input, output);
+    let a = unary::run_lent(ins.len() / 8, ins, outs.len() / 8, outs, s, input, output);
     let stop = a.stop;
     let t = a.state;
     put_back(stop, t, state);
     counts[0] = a.taken.0;
     counts[1] = a.written.0;
-    end_number(stop)
+    unary::end_number(stop) as u32
 }
 
 // The 16 rows of a system in memory, unused ones too.

@@ -5,14 +5,12 @@ ghost use mathlib.Core.List.{[], _∷_};
 ghost use Prim.Native.Nat.{_+_, _*_, _%_, _≤_};
 ghost use lib.ListN.{length};
 ghost use Rattle.printed.specs.Place.{Put, Room};
-ghost use Rattle.unary.specs.State.{endNumber};
 ghost use Rattle.printed.specs.Text.{glyph, decimal, signedText, heldText, countsLine, stateLine, digitsLine, answerText, refusedText};
 ghost use Rattle.printed.specs.Responds.{Responds};
 use jobs::Verdict;
 use unary::Answer;
 use unary::Held;
 use unary::State;
-use unary::Stop;
 
 fn put(out: &mut [u8], at: usize, byte: u8) -> usize
     requires { ⌜ Room (now out) at 1 ⌝ }
@@ -126,19 +124,6 @@ fn put_digits(out: &mut [u8], at: usize, digits: &[u8]) -> usize
     put_number(out, p, digits[0] as u64)
 }
 
-// Document 01's number for the way in which a run stopped.
-fn end_number(stop: Stop) -> u8
-    ensures { λ r. ⌜ r ≡ endNumber stop ⌝ }
-{
-    match stop {
-        Stop::InputUsed => 0,
-        Stop::NoRoom => 20,
-        Stop::NotADigit => 21,
-        Stop::RangeLeft => 22,
-        Stop::Refused(number) => number,
-    }
-}
-
 // The three lines of a run's answer, at the end of the buffer, with the bytes of its output.
 fn put_answer(out: &mut [u8], answer: Answer, output: &[u8]) -> usize
     requires { ⌜ (40000 ≤ length (now out)) × (length (now output) ≤ 8192) × (answer .written .0 ≤ length (now output)) ⌝ }
@@ -147,7 +132,7 @@ fn put_answer(out: &mut [u8], answer: Answer, output: &[u8]) -> usize
     let n = answer.written.0;
     let state = answer.state;
     let stop = answer.stop;
-    let end = end_number(stop);
+    let end = unary::end_number(stop);
     let at = out.len();
     let a = put_digits(out, at, &output[..n]);
     let b = put_state(out, a, state);

@@ -8,7 +8,8 @@ use mathlib.Core.List.{List}
 use mathlib.Core.Logic.{_⊎_, inl, inr, _↔_}
 use Prim.Native.Nat.{ℕ, zero, suc, _≤_}
 use native.Mathlib.Omega.{arith}
-use lib.ListN.{length}
+use lib.IntN.{ℤ}
+use Rattle.digits.specs.System.{Rows}
 use Rattle.digits.specs.Admission.{refusalNumber, admissionOf}
 use Rattle.digits.specs.declared.Admission.{Admission}
 use Rattle.digits.specs.declared.Admission.the-variants.{Admitted, WrongCount, OutOfRange, NotAbove, NotBelow, NotLowest, Uncovered}
@@ -17,8 +18,8 @@ use Rattle.unary.specs.declared.State.{State}
 use Rattle.unary.specs.declared.Stop.the-variants.{Refused}
 use Rattle.unary.specs.State.{StateRules, state?}
 use Rattle.unary.specs.Step.{Systems}
-use Rattle.unary.specs.Run.{stopped, stepsOf, or-else, refusalOf, judgedOf, systems, runOf}
-use Rattle.unary.specs.Ready.{Ready}
+use Rattle.unary.specs.Run.{stopped, stepsOf, or-else, refusalOf, judgedOf, lentRun, systems, runOf}
+use Rattle.unary.specs.Ready.{Lent, Ready}
 use Rattle.unary.proofs.DigitsFacts.{admitted-few, admitted-digits}
 use Rattle.unary.proofs.Keeps.{state-says}
 
@@ -68,13 +69,16 @@ accepted y s = (to, from)
     from : Accepted y s → refusalOf y s ≡ 0
     from a = rw (a .input, a .output, state-says (y .ins) s .1 (a .state))
 
--- so the steps of a run may rely on all of that, if each system's 16 rows are there
-pub accepted-ready : (y : Systems) (s : State) → 128 ≤ length (y .in-rows) → 128 ≤ length (y .out-rows) → refusalOf y s ≡ 0 → Ready y s
+-- so the steps of a run may rely on all of that, if the rows of each system are there
+admitted-lent : (n : ℕ) (rows : List ℤ) → Rows n rows → admissionOf n rows ≡ Admitted → Lent n rows
+admitted-lent n rows r e = let few = admitted-few n rows e in record { there = r .there few; few = few; digits = admitted-digits n rows e }
+
+pub accepted-ready : (y : Systems) (s : State) → Rows (y .ins) (y .in-rows) → Rows (y .outs) (y .out-rows) → refusalOf y s ≡ 0 → Ready y s
 accepted-ready y s p q e =
     let a = accepted y s .0 e in
     record {
-      input = record { whole = p; few = admitted-few (y .ins) (y .in-rows) (a .input); digits = admitted-digits (y .ins) (y .in-rows) (a .input) };
-      output = record { whole = q; few = admitted-few (y .outs) (y .out-rows) (a .output); digits = admitted-digits (y .outs) (y .out-rows) (a .output) };
+      input = admitted-lent (y .ins) (y .in-rows) p (a .input);
+      output = admitted-lent (y .outs) (y .out-rows) q (a .output);
       state = a .state;
     }
 
@@ -114,16 +118,25 @@ refusal-number y s =
 
 -- ---- what a run is in either case
 
+module _ (y : Systems) (s : State) (inp out : List ℕ) where
+  pub lent-accepted : refusalOf y s ≡ 0 → lentRun y s inp out ≡ stepsOf y s inp out
+  unfolding lentRun
+  lent-accepted e = ap (judgedOf y s inp out) e
+
+  -- "it then answers the number, counts 0 and 0, the state as handed in, and an untouched output"
+  pub lent-untouched : (refusalOf y s ≡ 0 → ⊥) → lentRun y s inp out ≡ stopped (Refused (refusalOf y s)) s 0 out 0
+  unfolding lentRun
+  lent-untouched f = by (refusalOf y s) f
+    where
+      by : (n : ℕ) → (n ≡ 0 → ⊥) → judgedOf y s inp out n ≡ stopped (Refused n) s 0 out 0
+      by zero f = absurd (f refl)
+      by (suc n) f = refl
+
 module _ (a b : System) (s : State) (inp out : List ℕ) where
   pub run-accepted : refusalOf (systems a b) s ≡ 0 → runOf a b s inp out ≡ stepsOf (systems a b) s inp out
   unfolding runOf
-  run-accepted e = ap (judgedOf (systems a b) s inp out) e
+  run-accepted e = lent-accepted (systems a b) s inp out e
 
-  -- "it then answers the number, counts 0 and 0, the state as handed in, and an untouched output"
   pub refused-untouched : (refusalOf (systems a b) s ≡ 0 → ⊥) → runOf a b s inp out ≡ stopped (Refused (refusalOf (systems a b) s)) s 0 out 0
   unfolding runOf
-  refused-untouched f = by (refusalOf (systems a b) s) f
-    where
-      by : (n : ℕ) → (n ≡ 0 → ⊥) → judgedOf (systems a b) s inp out n ≡ stopped (Refused n) s 0 out 0
-      by zero f = absurd (f refl)
-      by (suc n) f = refl
+  refused-untouched f = lent-untouched (systems a b) s inp out f

@@ -16,7 +16,7 @@ use Rattle.unary.specs.declared.State.{State}
 use Rattle.unary.specs.declared.Kind.{Kind}
 use Rattle.unary.specs.declared.Kind.the-variants.{Load, Give, Absorb, Halt}
 use Rattle.unary.specs.Step.{Systems, move}
-use Rattle.unary.specs.Run.{Ran, moveAt, heldCount, left, countAfter, countBy, stepsMade, stepsOf, refusalOf, judgedOf, systems, runOf, judgedSteps, runSteps}
+use Rattle.unary.specs.Run.{Ran, moveAt, heldCount, left, countAfter, countBy, stepsMade, stepsOf, refusalOf, judgedOf, lentRun, systems, runOf, judgedSteps, runSteps}
 use Rattle.unary.proofs.Moves.{on-load, on-give, on-absorb}
 use Rattle.unary.proofs.Runs.{Runs, halts, loads, gives, absorbs, steps-run}
 
@@ -56,7 +56,7 @@ steps-counted y s inp out = omega (arith, counted (steps-run y s inp out))
 -- of any run at all; a refused one makes none
 pub few-steps : (a b : System) (s : State) (inp out : List ℕ) →
     runSteps a b s inp out ≤ 2 * runOf a b s inp out .answer .taken .0 + runOf a b s inp out .answer .written .0 + 1 + heldCount (s .held)
-unfolding runSteps runOf
+unfolding runSteps runOf lentRun
 few-steps a b s inp out = by (refusalOf (systems a b) s)
   where
     by : (n : ℕ) → judgedSteps (systems a b) s inp out n ≤

@@ -7,17 +7,16 @@ use mathlib.Core.Path.{_≡_, refl, sym, ap, subst, _∙_}
 use mathlib.Core.Bool.{Bool, cond}
 use mathlib.Core.List.{List}
 use mathlib.Core.Option.{Option, none, some}
-use Prim.Native.Nat.{ℕ, _*_, _<_}
+use Prim.Native.Nat.{ℕ, _≤_, _<_}
 use native.Mathlib.Omega.{arith}
 use native.Mathlib.Decide.{ℕ-discrete}
 use lib.Dec.{ltb}
 use lib.ListN.{length}
 use lib.IntN.{ℤ}
-use Rattle.whole.specs.Range.{at}
 use Rattle.plane.specs.Plane.{multiplyOf, pseudoinverseOf, imageOf, cancelOf}
 use Rattle.plane.specs.Inclusion.{included?}
 use Rattle.digits.specs.System.{intervalOf}
-use Rattle.digits.specs.Admission.{refusalNumber, admissionOf}
+use Rattle.digits.specs.Admission.{refusalNumber}
 use Rattle.digits.specs.declared.System.{System}
 use Rattle.digits.proofs.First.{first-same}
 use Rattle.unary.specs.declared.Held.{Held}
@@ -30,32 +29,28 @@ use Rattle.unary.specs.declared.Kind.{Kind}
 use Rattle.unary.specs.declared.Kind.the-variants.{Load, Give, Absorb, Halt}
 use Rattle.unary.specs.State.{HeldDigit, state?}
 use Rattle.unary.specs.Step.{Systems, move, halt, ranged, loadOf, fits?, fittingOf, heldOf, stepBy, stepOf}
-use Rattle.unary.specs.Run.{Ran, stopped, nextAt, stepsOf, or-else, refusalOf, systems, runOf}
-use Rattle.digits.proofs.UnusedRows.{same-transformation, same-interval, unused-rows}
+use Rattle.unary.specs.Run.{Ran, stopped, nextAt, stepsOf, or-else, refusalOf, lentRun, systems, runOf}
+use Rattle.digits.proofs.UnusedRows.{SameDigits, same-transformation, same-interval, unused-rows}
+use Rattle.unary.proofs.DigitsFacts.{admitted-few}
 use Rattle.unary.proofs.StepSays.{fittingAt, fitting-below, Says, says}
 use Rattle.unary.proofs.Runs.{Runs, halts, loads, gives, absorbs, steps-run, steps-only}
-use Rattle.unary.proofs.Judged.{accepted, run-accepted, refused-untouched}
-
--- two systems that agree at the places of their digits
-pub record SameDigits (n : ℕ) (rows : List ℤ) (n′ : ℕ) (rows′ : List ℤ) : Type 0 where
-  pub count : n ≡ n′
-  pub numbers : (p : ℕ) → p < 8 * n → at rows p ≡ at rows′ p
+use Rattle.unary.proofs.Judged.{accepted, lent-accepted, lent-untouched}
 
 pub record SameSystems (y z : Systems) : Type 0 where
   pub input : SameDigits (y .ins) (y .in-rows) (z .ins) (z .in-rows)
   pub output : SameDigits (y .outs) (y .out-rows) (z .outs) (z .out-rows)
 
-module _ (y z : Systems) (same : SameSystems y z) where
+module _ (y z : Systems) (same : SameSystems y z) (few-in : y .ins ≤ 16) (few-out : y .outs ≤ 16) where
   -- ---- one step
 
   in-interval : (a : ℕ) → a < y .ins → intervalOf (y .in-rows) a ≡ intervalOf (z .in-rows) a
-  in-interval = same-interval (y .ins) (y .in-rows) (z .in-rows) (same .input .numbers)
+  in-interval = same-interval (y .ins) (y .in-rows) (z .in-rows) (same .input .numbers few-in)
 
   same-fitting : (image : List ℤ) → fittingOf (y .outs) (y .out-rows) image ≡ fittingOf (z .outs) (z .out-rows) image
   unfolding fittingOf
   same-fitting image =
       first-same (fits? image (y .out-rows)) (fits? image (z .out-rows)) (y .outs) 0
-      (λ b i k. ap (included? image) (same-interval (y .outs) (y .out-rows) (z .out-rows) (same .output .numbers) b (omega arith))) ∙
+      (λ b i k. ap (included? image) (same-interval (y .outs) (y .out-rows) (z .out-rows) (same .output .numbers few-out) b (omega arith))) ∙
       ap (λ (n : ℕ). fittingOf n (z .out-rows) image) (same .output .count)
 
   fitting-same : (s : State) (h : ℕ) → h < y .ins → fittingAt y s h ≡ fittingAt z s h
@@ -67,10 +62,10 @@ module _ (y z : Systems) (same : SameSystems y z) where
       heldOf (y .in-rows) (y .out-rows) s h room o ≡ heldOf (z .in-rows) (z .out-rows) s h room o
   same-emit s h room k none e =
       ap (λ (f : List ℤ). ranged s Absorb (record { matrix = cancelOf (multiplyOf (s .matrix) f); held = Nothing }))
-      (same-transformation (y .ins) (y .in-rows) (z .in-rows) (same .input .numbers) h k)
+      (same-transformation (y .ins) (y .in-rows) (z .in-rows) (same .input .numbers few-in) h k)
   same-emit s h room k (some b) e =
       ap (λ (g : List ℤ). cond room (ranged s (Give b) (record { matrix = cancelOf (multiplyOf (pseudoinverseOf g) (s .matrix)); held = s .held })) (halt NoRoom s))
-      (same-transformation (y .outs) (y .out-rows) (z .out-rows) (same .output .numbers) b (fitting-below y s End h b e))
+      (same-transformation (y .outs) (y .out-rows) (z .out-rows) (same .output .numbers few-out) b (fitting-below y s End h b e))
 
   by-held : (s : State) (next : Next) (room : Bool) (h : Held) → HeldDigit (y .ins) h → stepBy y s next room h ≡ stepBy z s next room h
   by-held s next room Nothing k = ap (λ (n : ℕ). loadOf n s next) (same .input .count)
@@ -104,31 +99,29 @@ module _ (y z : Systems) (same : SameSystems y z) where
   pub same-steps : (s : State) (inp out : List ℕ) → HeldDigit (y .ins) (s .held) → stepsOf y s inp out ≡ stepsOf z s inp out
   same-steps s inp out h = steps-only (same-runs h (steps-run y s inp out))
 
-  -- ---- what is judged before
+-- ---- what is judged before, and a whole run
 
+module _ (y z : Systems) (same : SameSystems y z) where
   pub same-refusal : (s : State) → refusalOf y s ≡ refusalOf z s
   unfolding refusalOf
   same-refusal s =
-      let p = unused-rows (y .ins) (y .in-rows) (z .in-rows) (same .input .numbers) ∙ ap (λ (n : ℕ). admissionOf n (z .in-rows)) (same .input .count) in
-      let q = unused-rows (y .outs) (y .out-rows) (z .out-rows) (same .output .numbers) ∙ ap (λ (n : ℕ). admissionOf n (z .out-rows)) (same .output .count) in
+      let p = unused-rows (y .in-rows) (z .in-rows) (same .input) in
+      let q = unused-rows (y .out-rows) (z .out-rows) (same .output) in
       λ i. or-else (refusalNumber (p i)) (or-else (refusalNumber (q i)) (cond (state? (same .input .count i) s) 0 12))
 
--- ---- of a whole run
+  pub same-lent : (s : State) (inp out : List ℕ) → lentRun y s inp out ≡ lentRun z s inp out
+  same-lent s inp out = by (ℕ-discrete (refusalOf y s) 0)
+    where
+      by : Dec (refusalOf y s ≡ 0) → lentRun y s inp out ≡ lentRun z s inp out
+      by (yes e) =
+          let a = accepted y s .0 e in
+          lent-accepted y s inp out e ∙
+          same-steps y z same (admitted-few (y .ins) (y .in-rows) (a .input)) (admitted-few (y .outs) (y .out-rows) (a .output)) s inp out (a .state .held-digit) ∙
+          sym (lent-accepted z s inp out (sym (same-refusal s) ∙ e))
+      by (no n) =
+          lent-untouched y s inp out n ∙ ap (λ (k : ℕ). stopped (Refused k) s 0 out 0) (same-refusal s) ∙ sym (lent-untouched z s inp out (λ e. n (same-refusal s ∙ e)))
 
 pub same-run : (a a′ b b′ : System) → SameDigits (a .count) (a .rows) (a′ .count) (a′ .rows) → SameDigits (b .count) (b .rows) (b′ .count) (b′ .rows) →
     (s : State) (inp out : List ℕ) → runOf a b s inp out ≡ runOf a′ b′ s inp out
-same-run a a′ b b′ f g s inp out = by (ℕ-discrete (refusalOf (systems a b) s) 0)
-  where
-    same : SameSystems (systems a b) (systems a′ b′)
-    same = record { input = f; output = g }
-
-    refusals : refusalOf (systems a b) s ≡ refusalOf (systems a′ b′) s
-    refusals = same-refusal (systems a b) (systems a′ b′) same s
-
-    by : Dec (refusalOf (systems a b) s ≡ 0) → runOf a b s inp out ≡ runOf a′ b′ s inp out
-    by (yes e) =
-        run-accepted a b s inp out e ∙
-        same-steps (systems a b) (systems a′ b′) same s inp out (accepted (systems a b) s .0 e .state .held-digit) ∙
-        sym (run-accepted a′ b′ s inp out (sym refusals ∙ e))
-    by (no n) =
-        refused-untouched a b s inp out n ∙ ap (λ (k : ℕ). stopped (Refused k) s 0 out 0) refusals ∙ sym (refused-untouched a′ b′ s inp out (λ e. n (refusals ∙ e)))
+unfolding runOf
+same-run a a′ b b′ f g = same-lent (systems a b) (systems a′ b′) (record { input = f; output = g })

@@ -38,7 +38,7 @@ pub record Turn (rows : List ℤ) (s : State) (a : ℕ) : Type 0 where
 
 -- a system that is lent
 pub record Lent (n : ℕ) (rows : List ℤ) : Type 0 where
-  pub whole : 128 ≤ length rows
+  pub there : 8 * n ≤ length rows
   pub few : n ≤ 16
   pub digits : DigitsBelow rows n
 

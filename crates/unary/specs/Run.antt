@@ -93,8 +93,12 @@ judgedOf y s inp out (suc number) = stopped (Refused (suc number)) s 0 out 0
 abbrev pub systems : System → System → Systems
 systems a b = record { ins = a .count; in-rows = a .rows; outs = b .count; out-rows = b .rows }
 
+-- a run over two systems that are lent, and over two in memory
+unfoldable pub lentRun : Systems → State → List ℕ → List ℕ → Ran
+lentRun y s inp out = judgedOf y s inp out (refusalOf y s)
+
 unfoldable pub runOf : System → System → State → List ℕ → List ℕ → Ran
-runOf a b s inp out = judgedOf (systems a b) s inp out (refusalOf (systems a b) s)
+runOf a b s inp out = lentRun (systems a b) s inp out
 
 -- the steps of a judged run: none where it is refused
 abbrev pub judgedSteps : Systems → State → List ℕ → List ℕ → ℕ → ℕ

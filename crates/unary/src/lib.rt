@@ -1,14 +1,15 @@
 // The unary algorithm: document 01's section "The step", refusals 6, 11 and 12, ends 0, 20, 21 and 22.
-// Public: `State`, `open` and `run` with the types of their answers. The rest are the steps of a run.
+// Public: `State`, `open` and `run` with the types of their answers, and `end_number`. The rest are the steps of a run.
 ghost use mathlib.Core.Path.{_≡_};
-ghost use Prim.Native.Nat.{_≤_};
+ghost use Prim.Native.Nat.{_*_, _≤_};
 ghost use lib.ListN.{length};
 ghost use Rattle.whole.specs.Range.{Within};
 ghost use Rattle.plane.specs.Plane.{multiplyOf, cancelOf};
+ghost use Rattle.digits.specs.System.{Rows};
 ghost use Rattle.digits.specs.Admission.{Small};
-ghost use Rattle.unary.specs.State.{heldDigit?, state?, openOf};
+ghost use Rattle.unary.specs.State.{endNumber, heldDigit?, state?, openOf};
 ghost use Rattle.unary.specs.Step.{loadOf, ranged, fittingOf, giveOf, absorbOf, emitOf, stepOf};
-ghost use Rattle.unary.specs.Run.{nextAt, stepsOf, refusalOf, runOf, systems};
+ghost use Rattle.unary.specs.Run.{nextAt, stepsOf, refusalOf, lentRun, runOf};
 ghost use Rattle.unary.specs.Ready.{lent, fitting, Factors, Turn, Lent, Ready};
 use digits::System;
 
@@ -44,6 +45,19 @@ pub enum Stop {
     NotADigit,
     RangeLeft,
     Refused(u8),
+}
+
+// Document 01's number for the way in which a run stopped.
+pub fn end_number(stop: Stop) -> u8
+    ensures { λ r. ⌜ r ≡ endNumber stop ⌝ }
+{
+    match stop {
+        Stop::InputUsed => 0,
+        Stop::NoRoom => 20,
+        Stop::NotADigit => 21,
+        Stop::RangeLeft => 22,
+        Stop::Refused(number) => number,
+    }
 }
 
 // The two counts, kept apart: the source's input pointer and its output pointer.
@@ -198,7 +212,7 @@ fn in_range(s: State, kind: Kind, t: State) -> Move
 
 // Line 4, its first half: the smallest output digit whose interval includes the image.
 fn fitting_digit(m: usize, rows: &[i16], image: [i64; 4]) -> Fitting
-    requires { ⌜ (128 ≤ length (now rows)) × (m ≤ 16) × (Within 200000000000 image) × (Small (now rows) m) ⌝ }
+    requires { ⌜ (8 * m ≤ length (now rows)) × (m ≤ 16) × (Within 200000000000 image) × (Small (now rows) m) ⌝ }
     ensures { λ r. ⌜ r ≡ fitting (fittingOf m (now (rows .entry)) image) ⌝ }
 {
     let mut b = 0;
@@ -325,7 +339,7 @@ fn steps(
 
 // "A run judges its input system (3, 6 to 10), its output system, then the state (12), before any step": the number of the refusal, or 0.
 fn refusal(ins: usize, fw: &[i16], outs: usize, gu: &[i16], s: State) -> u8
-    requires { ⌜ (128 ≤ length (now fw)) × (128 ≤ length (now gu)) ⌝ }
+    requires { ⌜ (Rows ins (now fw)) × (Rows outs (now gu)) ⌝ }
     ensures { λ r. ⌜ r ≡ refusalOf (lent ins (now (fw .entry)) outs (now (gu .entry))) s ⌝ }
 {
     let a = digits::refusal_number(digits::judged(ins, fw));
@@ -339,15 +353,20 @@ fn refusal(ins: usize, fw: &[i16], outs: usize, gu: &[i16], s: State) -> u8
     if state_kept(ins, s) { 0 } else { 12 }
 }
 
-// A run: bytes of the input are taken and digits are written to the output until a step stops. Of any two systems, any state, any input and any output at all.
-pub fn run(inputs: System, outputs: System, state: State, input: &[u8], output: &mut [u8]) -> Answer
-    ensures { λ r. ⌜ (r ≡ runOf inputs outputs state (now (input .entry)) (now (output .entry)) .answer) × (now (output .exit) ≡ runOf inputs outputs state (now (input .entry)) (now (output .entry)) .output) ⌝ }
+// A run over systems that are lent, as the rows of their digits. The systems and the state are judged first.
+pub fn run_lent(
+    ins: usize,
+    fw: &[i16],
+    outs: usize,
+    gu: &[i16],
+    state: State,
+    input: &[u8],
+    output: &mut [u8],
+) -> Answer
+    requires { ⌜ (Rows ins (now fw)) × (Rows outs (now gu)) ⌝ }
+    ensures { λ r. ⌜ (r ≡ lentRun (lent ins (now (fw .entry)) outs (now (gu .entry))) state (now (input .entry)) (now (output .entry)) .answer) × (now (output .exit) ≡ lentRun (lent ins (now (fw .entry)) outs (now (gu .entry))) state (now (input .entry)) (now (output .entry)) .output) ⌝ }
 {
-    let ins = inputs.count;
-    let fw = inputs.rows;
-    let outs = outputs.count;
-    let gu = outputs.rows;
-    let number = refusal(ins, &fw, outs, &gu, state);
+    let number = refusal(ins, fw, outs, gu, state);
     if number != 0 {
         return Answer {
             stop: Stop::Refused(number),
@@ -356,5 +375,14 @@ pub fn run(inputs: System, outputs: System, state: State, input: &[u8], output: 
             state,
         };
     }
-    steps(ins, &fw, outs, &gu, state, input, output)
+    steps(ins, fw, outs, gu, state, input, output)
+}
+
+// A run: bytes of the input are taken and digits are written to the output until a step stops. Of any two systems, any state, any input and any output at all.
+pub fn run(inputs: System, outputs: System, state: State, input: &[u8], output: &mut [u8]) -> Answer
+    ensures { λ r. ⌜ (r ≡ runOf inputs outputs state (now (input .entry)) (now (output .entry)) .answer) × (now (output .exit) ≡ runOf inputs outputs state (now (input .entry)) (now (output .entry)) .output) ⌝ }
+{
+    let fw = inputs.rows;
+    let gu = outputs.rows;
+    run_lent(inputs.count, &fw, outputs.count, &gu, state, input, output)
 }

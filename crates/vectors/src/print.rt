@@ -58,18 +58,8 @@ pub fn state(s: State) {
     held(h);
 }
 
-fn end_number(e: Stop) -> u8 {
-    match e {
-        Stop::InputUsed => 0,
-        Stop::NoRoom => 20,
-        Stop::NotADigit => 21,
-        Stop::RangeLeft => 22,
-        Stop::Refused(n) => n,
-    }
-}
-
 pub fn end(e: Stop) {
-    number(wide(end_number(e)));
+    number(wide(unary::end_number(e)));
 }
 
 fn rest(s: State, output: &[u8]) {

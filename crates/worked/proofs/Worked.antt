@@ -14,7 +14,7 @@ use Rattle.digits.specs.BuiltIn.{systemOf}
 use Rattle.digits.proofs.RowSays.{both-true}
 use Rattle.unary.specs.State.{state?, openOf}
 use Rattle.unary.specs.Step.{fittingOf, stepOf}
-use Rattle.unary.specs.Run.{runBy, stepsOf, refusalOf, runOf}
+use Rattle.unary.specs.Run.{runBy, stepsOf, refusalOf, lentRun, runOf}
 use Rattle.worked.specs.Claims.{Claim, Says, Member}
 use Rattle.worked.specs.Table.{table}
 use Rattle.worked.proofs.Tests.{passes?, holds}
@@ -31,7 +31,7 @@ passed (d ∷ ds) e c k =
 
 computed : allPass? table ≡ true
 unfolding gcdBy gcd gcd4 apply determinantOf pseudoinverseOf multiplyOf imageOf cancelOf closed? same? included? first fourAt within? rowVerdict rowsVerdict
-    admissionOf systemOf state? openOf fittingOf stepOf runBy stepsOf refusalOf runOf
+    admissionOf systemOf state? openOf fittingOf stepOf runBy stepsOf refusalOf lentRun runOf
 computed = refl
 
 -- Document 01's worked examples, P1 to P12 and its other runs, are true of the definitions.

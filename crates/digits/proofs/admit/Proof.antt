@@ -8,7 +8,7 @@ slice-aggregate-judged : tie.Need-slice-aggregate-judged
 slice-aggregate-judged c = search needs
 
 judged-requires : tie.Need-judged-requires
-judged-requires c κs = omega (arith, slice-aggregate-judged c)
+judged-requires c κs = record { there = λ few. omega (arith, slice-aggregate-judged c) }
 
 returns : tie.Need-returns
 returns c = search needs

@@ -1,6 +1,7 @@
 -- `digits::judged` meets its contract: "3: a system has 0 or more than 16 digits", and the rows after that.
 use borrow.Author.Needs.{needs}
 use borrow.Author.Tests.{le-leb, lt-leb}
+use Prim.Native.Nat.{_≤_}
 use native.Mathlib.Omega.{arith}
 use Rattle.digits.specs.Admission.{admissionOf}
 use Rattle.digits.proofs.judged.Statement.{statement}
@@ -15,7 +16,7 @@ unfolding admissionOf
 returns-2 c = rw (le-leb 1 (c .before .before .args .count) (omega arith), lt-leb (c .before .before .args .count) 16 (omega arith))
 
 rows-verdict-requires : tie.Need-rows-verdict-requires
-rows-verdict-requires c κs = search needs
+rows-verdict-requires c κs = let few : c .before .before .args .count ≤ 16 = omega arith in (c .before .before .pre .there few, few)
 
 returns-3 : tie.Need-returns-3
 unfolding admissionOf

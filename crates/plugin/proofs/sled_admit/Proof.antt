@@ -1,9 +1,11 @@
 -- `plugin::sled_admit` meets its contract: whole rows are judged, and any others refused by 40.
 use borrow.Author.Needs.{needs}
 use mathlib.Core.Path.{ap, _∙_}
+use denote.Ref.{now}
 use borrow.Author.Tests.{eq-eqb, ne-eqb}
 use Rattle.digits.specs.Admission.{refusalNumber}
-use Rattle.plugin.specs.Calls.{admitted, admitNumber}
+use Rattle.plugin.specs.Calls.{admitNumber}
+use Rattle.plugin.proofs.Rows.{lent-admission}
 use Rattle.plugin.proofs.sled_admit.Statement.{statement}
 use Rattle.plugin.proofs.sled_admit.Tie as tie
 
@@ -14,9 +16,10 @@ returns c = rw (ne-eqb _ _ (c .if1 .taken))
 returns-2 : tie.Need-returns-2
 unfolding admitNumber
 returns-2 c =
-    let a = c .before in
-    let f = a .before in
-    rw (eq-eqb _ _ (f .before .if1 .left)) (c .refusal-number .ensures ∙ ap refusalNumber (a .admit .ensures) ∙ ap admitted (f .system-from .ensures))
+    let j = c .before in
+    let l = j .before in
+    let whole = eq-eqb _ _ (l .if1 .left) in
+    rw whole (c .refusal-number .ensures ∙ ap refusalNumber (j .judged .ensures ∙ lent-admission (now (l .before .args .rows)) whole))
 
 pub sled-admit-spec : {M : Type 1} → statement M
-sled-admit-spec = tie.close (tie.spec returns (λ c κs. search needs) (λ c κs. search needs) (λ c κs. search needs) (λ c. search needs) returns-2)
+sled-admit-spec = tie.close (tie.spec returns (λ c κs. search needs) (λ c κs. search needs) (λ c. search needs) returns-2)

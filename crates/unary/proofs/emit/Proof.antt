@@ -35,7 +35,7 @@ turn : (m : ℕ) (rows image : List ℤ) (s : State) (b : ℕ) {fw : List ℤ} {
 unfolding fittingOf
 turn m rows image s b t l e =
     let below : b < m = omega (arith, first-found (fits? image rows) m 0 b e .below) in
-    record { place = omega (arith, l .whole, l .few); digit = l .digits b below; movable = t .movable }
+    record { place = omega (arith, l .there, l .few); digit = l .digits b below; movable = t .movable }
 
 image-requires : tie.Need-image-requires
 image-requires c κs =
@@ -51,7 +51,7 @@ fitting-digit-requires c κs =
     let p = c .before .before .before .pre in
     let l = p .1 in
     let t = p .0 in
-    (l .whole, l .few, subst (Within 200000000000) (sym (is c)) (within-le (image-within (t .movable .in-range) (t .digit .in-range .numbers-w)) tt), small _ _ (l .digits))
+    (l .there, l .few, subst (Within 200000000000) (sym (is c)) (within-le (image-within (t .movable .in-range) (t .digit .in-range .numbers-w)) tt), small _ _ (l .digits))
 
 -- what was found
 abbrev first-fit : tie.After-fitting-digit → Option ℕ

@@ -17,7 +17,7 @@ turn : {y : Systems} {s : State} {h : ℕ} → Ready y s → s .held ≡ Digit h
 turn {y} {s} {h} r e =
     let below : h < y .ins = subst (HeldDigit (y .ins)) e (r .state .held-digit) in
     record {
-      place = omega (arith, r .input .whole, r .input .few);
+      place = omega (arith, r .input .there);
       digit = r .input .digits h below;
       movable = record { above = r .state .above; in-range = r .state .in-range };
     }
