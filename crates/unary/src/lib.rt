@@ -281,14 +281,23 @@ fn emit(fw: &[i16], outs: usize, gu: &[i16], s: State, h: u8, room: bool) -> Mov
     }
 }
 
-// One step, first line that applies.
-fn step(ins: usize, fw: &[i16], outs: usize, gu: &[i16], s: State, next: Next, room: bool) -> Move
+// One step, first line that applies, behind i bytes taken. The next byte is read only where nothing is held.
+fn step(
+    ins: usize,
+    fw: &[i16],
+    outs: usize,
+    gu: &[i16],
+    s: State,
+    input: &[u8],
+    i: usize,
+    room: bool,
+) -> Move
     requires { ⌜ Ready (lent ins (now fw) outs (now gu)) s ⌝ }
-    ensures { λ r. ⌜ r ≡ stepOf (lent ins (now (fw .entry)) outs (now (gu .entry))) s next room ⌝ }
+    ensures { λ r. ⌜ r ≡ stepOf (lent ins (now (fw .entry)) outs (now (gu .entry))) s (nextAt (now (input .entry)) i) room ⌝ }
 {
     let held = s.held;
     match held {
-        Held::Nothing => load(ins, s, next),
+        Held::Nothing => load(ins, s, next_at(input, i)),
         Held::Digit(h) => emit(fw, outs, gu, s, h, room),
     }
 }
@@ -310,9 +319,8 @@ fn steps(
     let mut i: usize = 0;
     let mut o: usize = 0;
     loop {
-        let next = next_at(input, i);
         let room = o < output.len();
-        let m = step(ins, fw, outs, gu, st, next, room);
+        let m = step(ins, fw, outs, gu, st, input, i, room);
         let kind = m.kind;
         let t = m.state;
         st = t;

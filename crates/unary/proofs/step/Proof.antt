@@ -4,10 +4,13 @@ use mathlib.Core.Path.{_≡_, sym, ap, subst, _∙_}
 use Prim.Native.Nat.{ℕ, _<_}
 use native.Mathlib.Omega.{arith}
 use denote.Ref.{now}
+use Rattle.unary.specs.declared.Held.{Held}
 use Rattle.unary.specs.declared.Held.the-variants.{Digit}
 use Rattle.unary.specs.declared.State.{State}
+use Rattle.unary.specs.declared.Move.{Move}
 use Rattle.unary.specs.State.{HeldDigit}
-use Rattle.unary.specs.Step.{Systems, stepBy, stepOf}
+use Rattle.unary.specs.Step.{Systems, loadOf, stepBy, stepOf}
+use Rattle.unary.specs.Run.{nextAt}
 use Rattle.unary.specs.Ready.{lent, Turn, Ready}
 use Rattle.unary.proofs.step.Statement.{statement}
 use Rattle.unary.proofs.step.Tie as tie
@@ -24,21 +27,23 @@ turn {y} {s} {h} r e =
 
 emit-requires : tie.Need-emit-requires
 emit-requires c κs =
-    let s = c .before .before .before in
-    let r = s .pre in
+    let r = c .before .before .before .before .pre in
     (turn r (c .before .held .given .1), r .output)
+
+-- the step, by what is held
+abbrev held-by : tie.Start → Held → Move
+held-by s = let a = s .args in stepBy (lent (a .ins) (now (a .fw)) (a .outs) (now (a .gu))) (a .s) (nextAt (now (a .input)) (a .i)) (a .room)
 
 returns : tie.Need-returns
 unfolding stepOf
 returns c =
-    let a = c .before .before .before .args in
-    c .load .ensures ∙ sym (ap (stepBy (lent (a .ins) (now (a .fw)) (a .outs) (now (a .gu))) (a .s) (a .next) (a .room)) (c .before .enum-told .given .1))
+    let n = c .before in
+    let s = n .before .before .before .before in
+    c .load .ensures ∙ ap (loadOf (s .args .ins) (s .args .s)) (n .next-at .ensures) ∙ sym (ap (held-by s) (n .before .enum-told .given .1))
 
 returns-2 : tie.Need-returns-2
 unfolding stepOf
-returns-2 c =
-    let a = c .before .before .before .before .args in
-    c .emit .ensures ∙ sym (ap (stepBy (lent (a .ins) (now (a .fw)) (a .outs) (now (a .gu))) (a .s) (a .next) (a .room)) (c .before .before .held .given .1))
+returns-2 c = c .emit .ensures ∙ sym (ap (held-by (c .before .before .before .before .before)) (c .before .before .held .given .1))
 
 pub step-spec : {M : Type 1} → statement M
-step-spec = tie.close (tie.spec (λ c. search needs) (λ c κs. search needs) (λ c. search needs) emit-requires returns returns-2)
+step-spec = tie.close (tie.spec (λ c. search needs) (λ c κs. search needs) (λ c κs. search needs) (λ c. search needs) emit-requires returns returns-2)
