@@ -13,7 +13,7 @@ use Rattle.whole.proofs.Test.{true-lt, false-lt}
 use Rattle.plane.specs.Plane.{determinantOf}
 use Rattle.digits.specs.Admission.{within?}
 use Rattle.digits.proofs.RowSays.{within-says, says-within, false-by}
-use Rattle.jobs.specs.Reading.{countOf, numbersAt, systemOf, systemSize, systemRefused, systemJudged, systemSection}
+use Rattle.jobs.specs.Reading.{countOf, numbersAt, systemIn, systemSize, systemRefused, systemJudged, systemSection}
 use Rattle.jobs.specs.Reading.{matrixRefused, matrixJudged, matrixSection, wordNumber}
 
 module _ (bytes : List ℕ) where
@@ -35,7 +35,7 @@ module _ (bytes : List ℕ) where
   unfolding systemSection
   system-cut-off h k l s = rw (le-leb 2 (length bytes) h, le-leb 1 (countOf bytes) k, le-leb (countOf bytes) 16 l, lt-leb (systemSize bytes) (length bytes) s)
 
-  pub system-whole : 1 ≤ countOf bytes → countOf bytes ≤ 16 → systemSize bytes ≤ length bytes → systemSection bytes ≡ systemJudged (systemOf bytes)
+  pub system-whole : 1 ≤ countOf bytes → countOf bytes ≤ 16 → systemSize bytes ≤ length bytes → systemSection bytes ≡ systemJudged (systemIn bytes)
   unfolding systemSection
   system-whole k l s =
       rw (le-leb 2 (length bytes) (omega arith), le-leb 1 (countOf bytes) k, le-leb (countOf bytes) 16 l, le-leb (systemSize bytes) (length bytes) s)

@@ -15,7 +15,7 @@ use Rattle.digits.specs.BuiltIn.{filled}
 use Rattle.digits.specs.declared.System.{System}
 use Rattle.jobs.specs.declared.Verdict.the-variants.{Reads}
 use Rattle.jobs.specs.declared.Reading.{Reading}
-use Rattle.jobs.specs.Reading.{countOf, signed, numbersAt, systemOf, systemSize, systemJudged, systemSection}
+use Rattle.jobs.specs.Reading.{countOf, signed, numbersAt, systemIn, systemSize, systemJudged, systemSection}
 use Rattle.jobs.specs.Reading.{matrixJudged, matrixSection, wordNumber, judged, wordRead, matrixRead, outputRead, readOf}
 use Rattle.jobs.proofs.Sections.{system-none, system-many, system-whole, matrix-wrong-count, matrix-whole, word-wrong-count, word-bytes-follow}
 use Rattle.jobs.proofs.Ways.{le-or-lt, SystemWay, system-way, MatrixWay, matrix-way, WordWay, word-way, system-present}
@@ -47,7 +47,7 @@ module _ (m : ℕ) (bytes : List ℕ) (l : m < length bytes) where
   size = length-take-le m bytes (omega arith)
 
   same-system : 258 ≤ m → systemSection (take m bytes) ≡ systemSection bytes
-  unfolding systemOf
+  unfolding systemIn
   same-system h =
       let t = take m bytes in
       let c = same-count m bytes (omega arith) in

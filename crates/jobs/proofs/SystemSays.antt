@@ -15,7 +15,7 @@ use Rattle.digits.specs.declared.Admission.{Admission}
 use Rattle.digits.specs.declared.Admission.the-variants.{Admitted, WrongCount, OutOfRange, NotAbove, NotBelow, NotLowest, Uncovered}
 use Rattle.digits.proofs.AdmittedSays.{admitted-says, admitted-only}
 use Rattle.jobs.specs.Layout.{twoBytes, numbersBytes, systemBytes, Bytes, SystemRules}
-use Rattle.jobs.specs.Reading.{countOf, numbersAt, systemOf, systemSize, systemJudged, systemSection}
+use Rattle.jobs.specs.Reading.{countOf, numbersAt, systemIn, systemSize, systemJudged, systemSection}
 use Rattle.jobs.specs.Refuses.{Section, BreaksSystem}
 use Rattle.jobs.specs.declared.SystemSection.{SystemSection}
 use Rattle.jobs.proofs.Begins.{counted, numbers-follow, section, count-read, section-read, filled-take}
@@ -35,12 +35,12 @@ module _ {bytes : List ℕ} (h : Bytes bytes) (some-digits : 1 ≤ countOf bytes
   whole : Section bytes (countOf bytes) (8 * countOf bytes) (numbersAt bytes 2 (8 * countOf bytes))
   whole = section (8 * countOf bytes) h (omega arith)
 
-  rules : Admissible (systemOf bytes .count) (systemOf bytes .rows) → SystemRules (systemOf bytes)
-  unfolding systemOf
+  rules : Admissible (systemIn bytes .count) (systemIn bytes .rows) → SystemRules (systemIn bytes)
+  unfolding systemIn
   rules a = record { admissible = a; unused = ap filled (sym (filled-take (numbersAt bytes 2 (8 * countOf bytes)) (8 * countOf bytes) (whole .size))) }
 
-  begins : bytes ≡ systemBytes (systemOf bytes) ++ drop (systemSize bytes) bytes
-  unfolding systemOf systemBytes
+  begins : bytes ≡ systemBytes (systemIn bytes) ++ drop (systemSize bytes) bytes
+  unfolding systemIn systemBytes
   begins =
       let n = countOf bytes in
       let zs = numbersAt bytes 2 (8 * n) in
@@ -48,8 +48,8 @@ module _ {bytes : List ℕ} (h : Bytes bytes) (some-digits : 1 ≤ countOf bytes
       rw (filled-take zs (8 * n) (whole .size))
       (numbers-follow (8 * n) h (omega arith) ∙ ap (λ (k : ℕ). twoBytes n ++ (numbersBytes zs ++ drop k bytes)) d)
 
-  by-verdict : (v : Admission) → SystemCase (systemOf bytes .count) (systemOf bytes .rows) v → SystemSays bytes (systemOf bytes) (refusalNumber v)
-  unfolding systemOf
+  by-verdict : (v : Admission) → SystemCase (systemIn bytes .count) (systemIn bytes .rows) v → SystemSays bytes (systemIn bytes) (refusalNumber v)
+  unfolding systemIn
   by-verdict Admitted a = (rules a, begins)
   by-verdict WrongCount (inl e) = absurd (omega arith)
   by-verdict WrongCount (inr e) = absurd (omega arith)
@@ -71,7 +71,7 @@ system-says bytes h = elim (system-way bytes) [
   | SystemWay.cut-off l some few s ↦
       subst (Says bytes) (sym (system-cut-off bytes l some few s)) (BreaksSystem.cut-off (counted h l) some few (omega (arith, length-drop 2 bytes)))
   | SystemWay.whole some few fits ↦
-      let s = systemOf bytes in
+      let s = systemIn bytes in
       subst (Says bytes) (sym (system-whole bytes some few fits))
       (by-verdict h some few fits (admissionOf (s .count) (s .rows)) (admitted-says (s .count) (s .rows)))
 ]
@@ -81,7 +81,7 @@ system-says bytes h = elim (system-way bytes) [
 -- a whole section is judged by its numbers
 of-numbers : {bytes : List ℕ} {n : ℕ} {zs : List ℤ} → Section bytes n (8 * n) zs → 1 ≤ n → n ≤ 16 →
     systemSection bytes ≡ systemJudged (record { count = n; rows = filled zs })
-unfolding systemOf
+unfolding systemIn
 of-numbers {bytes} {n} {zs} s some few =
     let r = section-read s in
     let rows = ap (λ (k : ℕ). filled (numbersAt bytes 2 (8 * k))) (r .count) ∙ ap filled (r .numbers) in

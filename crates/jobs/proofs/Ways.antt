@@ -10,7 +10,7 @@ use borrow.Author.Tests.{leb-true, leb-false}
 use lib.Dec.{leb}
 use lib.ListN.{length, take, drop, length-drop}
 use lib.Seq.{take-all}
-use Rattle.jobs.specs.Reading.{countOf, systemOf, systemSize, systemSection, matrixSection, wordNumber, refused, judged}
+use Rattle.jobs.specs.Reading.{countOf, systemIn, systemSize, systemSection, matrixSection, wordNumber, refused, judged}
 use Rattle.jobs.specs.declared.Reading.{Reading}
 use Rattle.jobs.specs.declared.SystemSection.{SystemSection}
 use Rattle.jobs.specs.declared.MatrixSection.{MatrixSection}
@@ -134,7 +134,7 @@ pub record SystemPassed (bytes : List ℕ) (r : SystemSection) : Type 0 where
   pub count : r .system .count ≡ countOf bytes
 
 pub system-passed : (bytes : List ℕ) {r : SystemSection} → r ≡ systemSection bytes → r .number ≡ 0 → SystemPassed bytes r
-unfolding systemOf
+unfolding systemIn
 system-passed bytes e n =
     let zero = sym (ap (λ (s : SystemSection). s .number) e) ∙ n in
     let p = system-present bytes zero in

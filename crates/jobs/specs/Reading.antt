@@ -8,11 +8,10 @@ use Prim.Native.Nat.{ℕ, zero, suc, _+_, _*_}
 use lib.Dec.{leb, ltb, eqb}
 use lib.ListN.{length, getD, drop, replicate}
 use lib.IntN.{ℤ, pos, _-ℤ_}
-use lib.Signed.{ltZ}
-use Rattle.plane.specs.Plane.{determinantOf}
-use Rattle.digits.specs.Admission.{refusalNumber, within?, admissionOf}
+use Rattle.digits.specs.Admission.{refusalNumber, admissionOf}
 use Rattle.digits.specs.BuiltIn.{filled}
 use Rattle.digits.specs.declared.System.{System}
+use Rattle.unary.specs.State.{openingNumber, openingOf, noMatrix}
 use Rattle.jobs.specs.declared.Verdict.the-variants.{Reads, Refused}
 use Rattle.jobs.specs.declared.Job.{Job}
 use Rattle.jobs.specs.declared.Reading.{Reading}
@@ -44,15 +43,12 @@ abbrev pub countOf : List ℕ → ℕ
 countOf bytes = pairAt bytes 0
 
 -- eight numbers for each digit, and 0 for the digits that the system hasn't got
-unfoldable pub systemOf : List ℕ → System
-systemOf bytes = record { count = countOf bytes; rows = filled (numbersAt bytes 2 (8 * countOf bytes)) }
+unfoldable pub systemIn : List ℕ → System
+systemIn bytes = record { count = countOf bytes; rows = filled (numbersAt bytes 2 (8 * countOf bytes)) }
 
 -- what stands in the place of a system, of a matrix and of a job where none is read: all 0
 abbrev pub noSystem : System
 noSystem = record { count = 0; rows = replicate 128 (pos 0) }
-
-abbrev pub noMatrix : List ℤ
-noMatrix = pos 0 ∷ pos 0 ∷ pos 0 ∷ pos 0 ∷ []
 
 abbrev pub noJob : Job
 noJob = record { input = noSystem; output = noSystem; matrix = noMatrix; word = record { start = 0; length = 0 } }
@@ -67,7 +63,7 @@ unfoldable pub systemSection : List ℕ → SystemSection
 systemSection bytes =
     cond (leb 2 (length bytes))
     (cond (leb 1 (countOf bytes) && leb (countOf bytes) 16)
-    (cond (leb (2 + 16 * countOf bytes) (length bytes)) (systemJudged (systemOf bytes)) (systemRefused 1))
+    (cond (leb (2 + 16 * countOf bytes) (length bytes)) (systemJudged (systemIn bytes)) (systemRefused 1))
     (systemRefused 3))
     (systemRefused 1)
 
@@ -76,9 +72,13 @@ systemSection bytes =
 abbrev pub matrixRefused : ℕ → MatrixSection
 matrixRefused number = record { number = number; matrix = noMatrix }
 
+abbrev pub matrixNumbered : List ℤ → ℕ → MatrixSection
+matrixNumbered m zero = record { number = 0; matrix = m }
+matrixNumbered m (suc number) = matrixRefused (suc number)
+
+-- the matrix is judged as opening judges it
 abbrev pub matrixJudged : List ℤ → MatrixSection
-matrixJudged m =
-    cond (within? 1000 m) (cond (ltZ (pos 0) (determinantOf m)) (record { number = 0; matrix = m }) (matrixRefused 11)) (matrixRefused 6)
+matrixJudged m = matrixNumbered m (openingNumber (openingOf m))
 
 unfoldable pub matrixSection : List ℕ → MatrixSection
 matrixSection bytes =

@@ -153,11 +153,9 @@ fn matrix_section(bytes: &[u8]) -> MatrixSection
         return no_matrix(1);
     }
     let matrix = matrix_in(bytes);
-    if !digits::within(matrix, 1000) {
-        return no_matrix(6);
-    }
-    if plane::determinant(matrix) <= 0 {
-        return no_matrix(11);
+    let number = unary::opening_number(unary::opening_of(matrix));
+    if number != 0 {
+        return no_matrix(number);
     }
     MatrixSection { number: 0, matrix }
 }

@@ -8,12 +8,13 @@ use lib.Dec.{eqb}
 use lib.ListN.{length}
 use lib.IntN.{ℤ}
 use borrow.Author.Tests.{eq-eqb, ne-eqb, eqb-true}
+use Rattle.plane.specs.Scale.{entries}
 use Rattle.unary.specs.State.{openOf}
 use Rattle.unary.specs.Run.{runOf}
 use Rattle.jobs.specs.Reading.{readOf}
 use Rattle.plugin.specs.Numbers.{wrongLength, rows?, systemFrom, stateFrom}
 use Rattle.plugin.specs.Read.{leftRead, readingCall, readLengths?, readCall}
-use Rattle.plugin.specs.Calls.{wrote, handedOut, fourOf, opened, openCall, left, ranCall, runLengths?, runCall}
+use Rattle.plugin.specs.Calls.{wrote, handedOut, opened, openCall, left, ranCall, runLengths?, runCall}
 
 -- the rows of a built-in system
 pub handed-shut : (rows old : List ℤ) → (length old ≡ length rows → ⊥) → handedOut rows old ≡ wrote wrongLength old
@@ -33,7 +34,7 @@ pub open-shut-state : (m old : List ℤ) → length m ≡ 4 → (length old ≡ 
 unfolding openCall
 open-shut-state m old p e = rw (eq-eqb (length m) 4 p, ne-eqb (length old) 5 e)
 
-pub opens : (m old : List ℤ) → length m ≡ 4 → length old ≡ 5 → openCall m old ≡ opened (openOf (fourOf m)) old
+pub opens : (m old : List ℤ) → length m ≡ 4 → length old ≡ 5 → openCall m old ≡ opened (openOf (entries m)) old
 unfolding openCall
 opens m old p q = rw (eq-eqb (length m) 4 p, eq-eqb (length old) 5 q)
 

@@ -1,15 +1,13 @@
 -- What each C function answers, and what every lent number and byte is afterwards, for all inputs.
 use mathlib.Core.Bool.{Bool, cond, _&&_}
 use mathlib.Core.List.{List, [], _∷_}
-use Prim.Native.Nat.{ℕ}
+use Prim.Native.Nat.{ℕ, zero, suc}
 use lib.Dec.{eqb}
 use lib.ListN.{length}
 use lib.IntN.{ℤ}
-use Rattle.whole.specs.Range.{at}
+use Rattle.plane.specs.Scale.{entries}
 use Rattle.digits.specs.declared.System.{System}
 use Rattle.digits.specs.Admission.{refusalNumber, admissionOf}
-use Rattle.unary.specs.declared.Opening.{Opening}
-use Rattle.unary.specs.declared.Opening.the-variants.{Opens, OutOfRange, NotAbove}
 use Rattle.unary.specs.declared.Start.{Start}
 use Rattle.unary.specs.State.{endNumber, openingNumber, openOf}
 use Rattle.unary.specs.Run.{Ran, runOf}
@@ -36,22 +34,18 @@ unfoldable pub handedOut : List ℤ → List ℤ → Wrote
 handedOut rows old = cond (eqb (length old) (length rows)) (wrote 0 rows) (wrote wrongLength old)
 
 -- ---- opening: the state is written where it opens, and only there
-abbrev pub startNumbers : Opening → Start → List ℤ → Wrote
-startNumbers Opens r old = wrote 0 (stateNumbers (r .state))
-startNumbers OutOfRange r old = wrote (openingNumber OutOfRange) old
-startNumbers NotAbove r old = wrote (openingNumber NotAbove) old
+abbrev pub startNumbers : ℕ → Start → List ℤ → Wrote
+startNumbers zero r old = wrote 0 (stateNumbers (r .state))
+startNumbers (suc number) r old = wrote (suc number) old
 
 abbrev pub opened : Start → List ℤ → Wrote
-opened r old = startNumbers (r .opening) r old
-
-abbrev pub fourOf : List ℤ → List ℤ
-fourOf m = at m 0 ∷ at m 1 ∷ at m 2 ∷ at m 3 ∷ []
+opened r old = startNumbers (openingNumber (r .opening)) r old
 
 abbrev pub openLengths? : List ℤ → List ℤ → Bool
 openLengths? m old = eqb (length m) 4 && eqb (length old) 5
 
 unfoldable pub openCall : List ℤ → List ℤ → Wrote
-openCall m old = cond (openLengths? m old) (opened (openOf (fourOf m)) old) (wrote wrongLength old)
+openCall m old = cond (openLengths? m old) (opened (openOf (entries m)) old) (wrote wrongLength old)
 
 -- ---- a run: its answer, the state's five numbers, the bytes of the output, and the two counts, taken and written
 pub record Call : Type 0 where

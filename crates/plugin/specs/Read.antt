@@ -11,7 +11,7 @@ use Rattle.jobs.specs.declared.Job.{Job}
 use Rattle.jobs.specs.declared.Reading.{Reading}
 use Rattle.jobs.specs.Reading.{readOf}
 use Rattle.plugin.specs.Numbers.{wrongLength}
-use Rattle.plugin.specs.Calls.{fourOf}
+use Rattle.plane.specs.Scale.{entries}
 
 pub record ReadCall : Type 0 where
   pub number : ℕ
@@ -26,7 +26,7 @@ leftRead n ins outs m found = record { number = n; ins = ins; outs = outs; matri
 -- a job: all 16 rows of each system, 0 for the digits that it hasn't got; the four entries; then the two counts of digits, and where the word starts and how long it is
 abbrev pub jobNumbers : Job → ReadCall
 jobNumbers j =
-    leftRead 0 (j .input .rows) (j .output .rows) (fourOf (j .matrix)) (j .input .count ∷ j .output .count ∷ j .word .start ∷ j .word .length ∷ [])
+    leftRead 0 (j .input .rows) (j .output .rows) (entries (j .matrix)) (j .input .count ∷ j .output .count ∷ j .word .start ∷ j .word .length ∷ [])
 
 -- "The answer is the number and the section, 0 to 3": one number, number + 256 · section. A refusal writes nothing.
 abbrev pub verdictCall : Verdict → Job → List ℤ → List ℤ → List ℤ → List ℕ → ReadCall

@@ -8,16 +8,15 @@ ghost use lib.Dec.{eqb};
 ghost use lib.ListN.{length, take, drop};
 ghost use mathlib.Core.Bool.{_&&_};
 ghost use Rattle.digits.specs.BuiltIn.{joined, rowsR, rowsB, rowsD};
-ghost use Rattle.unary.specs.State.{openingNumber};
+ghost use Rattle.plane.specs.Scale.{entries};
 ghost use Rattle.plugin.specs.Numbers.{rows?, heldNumber, stateNumbers, heldFrom, stateFrom, refused?, stateAfter};
-ghost use Rattle.plugin.specs.Calls.{admitNumber, wrote, handedOut, fourOf, openCall, left, runCall};
+ghost use Rattle.plugin.specs.Calls.{admitNumber, wrote, handedOut, openCall, left, runCall};
 ghost use Rattle.plugin.specs.Read.{leftRead, readCall};
 use digits::System;
 use jobs::Verdict;
 use jobs::Word;
 use unary::Answer;
 use unary::Held;
-use unary::Opening;
 use unary::State;
 use unary::Stop;
 
@@ -174,14 +173,12 @@ pub extern "C" fn sled_open(matrix: &[i64], state: &mut [i64]) -> u32
     let start = unary::open([matrix[0], matrix[1], matrix[2], matrix[3]]);
     let opening = start.opening;
     let s = start.state;
-    match opening {
-        Opening::OutOfRange => 6,
-        Opening::NotAbove => 11,
-        Opening::Opens => {
-            put_state(s, state);
-            0
-        }
+    let number = unary::opening_number(opening);
+    if number != 0 {
+        return number as u32;
     }
+    put_state(s, state);
+    0
 }
 
 // Whether the slices of a run have the right lengths.
@@ -238,7 +235,7 @@ fn put_rows(s: System, rows: &mut [i16])
 // The four entries of a matrix.
 fn put_four(m: [i64; 4], to: &mut [i64])
     requires { ⌜ length (now to) ≡ 4 ⌝ }
-    ensures { λ _. ⌜ now (to .exit) ≡ fourOf m ⌝ }
+    ensures { λ _. ⌜ now (to .exit) ≡ entries m ⌝ }
 {
     to[0] = m[0];
     to[1] = m[1];

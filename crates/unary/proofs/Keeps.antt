@@ -32,7 +32,7 @@ use Rattle.unary.specs.declared.Kind.the-variants.{Load, Give, Absorb, H
 use Rattle.unary.specs.declared.Opening.{Opening}
 use Rattle.unary.specs.declared.Opening.the-variants.{Opens, OutOfRange, NotAbove}
 use Rattle.unary.specs.declared.Start.{Start}
-use Rattle.unary.specs.State.{HeldDigit, StateRules, heldDigit?, state?, openOf, OpeningCase, startOf}
+use Rattle.unary.specs.State.{HeldDigit, StateRules, heldDigit?, state?, openingOf, openOf, OpeningCase, startOf}
 use Rattle.unary.specs.Step.{Systems, stepOf}
 use Rattle.unary.specs.Ready.{Ready}
 use Rattle.digits.proofs.RowSays.{both-true, true-both, within-says, says-within}
@@ -131,22 +131,27 @@ cancelled-within m w = record {
   n3 = near-quot (w .n3) (gcd4 m);
 }
 
--- what the answer hands out
-abbrev Handed : List ℤ → Start → Type 0
-Handed m r = OpeningCase m (r .opening) × (r ≡ startOf m (r .opening))
+-- the answer that is given, by the two tests
+by-above : (m : List ℤ) (t : Bool) → ltZ (pos 0) (determinantOf m) ≡ t → Within 1000 m → OpeningCase m (cond t Opens NotAbove)
+by-above m true e w = (w, lt-true (pos 0) (determinantOf m) e)
+by-above m false e w = (w, lt-false (pos 0) (determinantOf m) e)
 
-by-above : (m : List ℤ) (t : Bool) → ltZ (pos 0) (determinantOf m) ≡ t → Within 1000 m → Handed m (cond t (startOf m Opens) (startOf m NotAbove))
-by-above m true e w = ((w, lt-true (pos 0) (determinantOf m) e), refl)
-by-above m false e w = ((w, lt-false (pos 0) (determinantOf m) e), refl)
-
-by-range : (m : List ℤ) (t : Bool) → within? 1000 m ≡ t →
-    Handed m (cond t (cond (ltZ (pos 0) (determinantOf m)) (startOf m Opens) (startOf m NotAbove)) (startOf m OutOfRange))
+by-range : (m : List ℤ) (t : Bool) → within? 1000 m ≡ t → OpeningCase m (cond t (cond (ltZ (pos 0) (determinantOf m)) Opens NotAbove) OutOfRange)
 by-range m true e = by-above m (ltZ (pos 0) (determinantOf m)) refl (within-says 1000 m e)
-by-range m false e = (λ w. true≢false (sym (says-within w) ∙ e), refl)
+by-range m false e = λ w. true≢false (sym (says-within w) ∙ e)
 
-handed : (m : List ℤ) → Handed m (openOf m)
+pub opening-says : (m : List ℤ) → OpeningCase m (openingOf m)
+opening-says m = by-range m (within? 1000 m) refl
+
+-- it is handed out
+handed-out : (m : List ℤ) (v : Opening) → startOf m v .opening ≡ v
+handed-out m Opens = refl
+handed-out m OutOfRange = refl
+handed-out m NotAbove = refl
+
+handed : (m : List ℤ) → openOf m .opening ≡ openingOf m
 unfolding openOf
-handed m = by-range m (within? 1000 m) refl
+handed m = handed-out m (openingOf m)
 
 -- no two of the three cases hold
 one-case : (m : List ℤ) (v w : Opening) → OpeningCase m v → OpeningCase m w → v ≡ w
@@ -162,11 +167,12 @@ one-case m NotAbove NotAbove p q = refl
 
 -- each answer is given exactly in its case
 pub opens : (m : List ℤ) (v : Opening) → (openOf m .opening ≡ v) ↔ OpeningCase m v
-opens m v = (λ e. subst (OpeningCase m) e (handed m .0), λ c. one-case m (openOf m .opening) v (handed m .0) c)
+opens m v = (λ e. subst (OpeningCase m) (sym (handed m) ∙ e) (opening-says m), λ c. handed m ∙ one-case m (openingOf m) v (opening-says m) c)
 
 -- "X is M cancelled, nothing held", and where opening is refused, four 0 and nothing held
 pub hands-out : (m : List ℤ) (v : Opening) → openOf m .opening ≡ v → openOf m ≡ startOf m v
-hands-out m v e = handed m .1 ∙ ap (startOf m) e
+unfolding openOf
+hands-out m v e = ap (startOf m) (sym (handed m) ∙ e)
 
 -- and the state that is handed out keeps the rules, whatever the input system
 pub opened-rules : (m : List ℤ) → openOf m .opening ≡ Opens → (n : ℕ) → StateRules n (openOf m .state)

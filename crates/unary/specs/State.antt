@@ -57,19 +57,9 @@ heldDigit? n (Digit d) = ltb d n
 unfoldable pub state? : ℕ → State → Bool
 state? n s = within? 1000000000 (s .matrix) && ltZ (pos 0) (determinantOf (s .matrix)) && lowest? (s .matrix) && heldDigit? n (s .held)
 
--- "Opening takes M with entries in −1000..1000 and determinant above 0; X is M cancelled, nothing held." "Opening: 6, then 11."
-abbrev pub noMatrix : List ℤ
-noMatrix = pos 0 ∷ pos 0 ∷ pos 0 ∷ pos 0 ∷ []
-
--- what stands in the state's place where opening is refused: four 0, nothing held
-abbrev pub refusedStart : Opening → Start
-refusedStart v = record { opening = v; state = record { matrix = noMatrix; held = Nothing } }
-
-unfoldable pub openOf : List ℤ → Start
-openOf m =
-    cond (within? 1000 m)
-    (cond (ltZ (pos 0) (determinantOf m)) (record { opening = Opens; state = record { matrix = cancelOf m; held = Nothing } }) (refusedStart NotAbove))
-    (refusedStart OutOfRange)
+-- "Opening: 6, then 11": an entry out of −1000..1000, a determinant that is not above 0
+abbrev pub openingOf : List ℤ → Opening
+openingOf m = cond (within? 1000 m) (cond (ltZ (pos 0) (determinantOf m)) Opens NotAbove) OutOfRange
 
 -- when each answer of opening is given, in document 01's words
 abbrev pub OpeningCase : List ℤ → Opening → Type 0
@@ -77,8 +67,18 @@ OpeningCase m Opens = Within 1000 m × (pos 0 <ℤ determinantOf m)
 OpeningCase m OutOfRange = Within 1000 m → ⊥
 OpeningCase m NotAbove = Within 1000 m × (determinantOf m ≤ℤ pos 0)
 
--- what each answer of opening hands out
+-- what stands in the place of a matrix, and of a state, where opening is refused: four 0, nothing held
+abbrev pub noMatrix : List ℤ
+noMatrix = pos 0 ∷ pos 0 ∷ pos 0 ∷ pos 0 ∷ []
+
+abbrev pub refusedStart : Opening → Start
+refusedStart v = record { opening = v; state = record { matrix = noMatrix; held = Nothing } }
+
+-- "Opening takes M with entries in −1000..1000 and determinant above 0; X is M cancelled, nothing held."
 abbrev pub startOf : List ℤ → Opening → Start
 startOf m Opens = record { opening = Opens; state = record { matrix = cancelOf m; held = Nothing } }
 startOf m OutOfRange = refusedStart OutOfRange
 startOf m NotAbove = refusedStart NotAbove
+
+unfoldable pub openOf : List ℤ → Start
+openOf m = startOf m (openingOf m)

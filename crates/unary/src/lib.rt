@@ -1,5 +1,5 @@
 // The unary algorithm: document 01's section "The step", refusals 6, 11 and 12, ends 0, 20, 21 and 22.
-// Public: `State`, `open` and `run` with the types of their answers, and `end_number`. The rest are the steps of a run.
+// Public: `State`, `open` and `run` with the types of their answers. The rest are the steps of a run, and what our other crates call.
 ghost use mathlib.Core.Path.{_≡_};
 ghost use Prim.Native.Nat.{_*_, _≤_};
 ghost use lib.ListN.{length};
@@ -7,7 +7,7 @@ ghost use Rattle.whole.specs.Range.{Within};
 ghost use Rattle.plane.specs.Plane.{multiplyOf, cancelOf};
 ghost use Rattle.digits.specs.System.{Rows};
 ghost use Rattle.digits.specs.Admission.{Small};
-ghost use Rattle.unary.specs.State.{endNumber, heldDigit?, state?, openOf};
+ghost use Rattle.unary.specs.State.{endNumber, openingNumber, heldDigit?, state?, openingOf, openOf};
 ghost use Rattle.unary.specs.Step.{loadOf, ranged, fittingOf, giveOf, absorbOf, emitOf, stepOf};
 ghost use Rattle.unary.specs.Run.{nextAt, stepsOf, refusalOf, lentRun, runOf};
 ghost use Rattle.unary.specs.Ready.{lent, fitting, Factors, Turn, Lent, Ready};
@@ -30,6 +30,17 @@ pub enum Opening {
     Opens,
     OutOfRange,
     NotAbove,
+}
+
+// Document 01's number for an answer of opening, and 0 where it opens.
+pub fn opening_number(v: Opening) -> u8
+    ensures { λ r. ⌜ r ≡ openingNumber v ⌝ }
+{
+    match v {
+        Opening::Opens => 0,
+        Opening::OutOfRange => 6,
+        Opening::NotAbove => 11,
+    }
 }
 
 // An opened session, or the refusal with nothing in the state's place.
@@ -97,23 +108,31 @@ pub struct Move {
     pub state: State,
 }
 
+// "Opening: 6, then 11." Of any four numbers at all.
+pub fn opening_of(m: [i64; 4]) -> Opening
+    ensures { λ r. ⌜ r ≡ openingOf m ⌝ }
+{
+    if !digits::within(m, 1000) {
+        return Opening::OutOfRange;
+    }
+    if plane::determinant(m) <= 0 {
+        return Opening::NotAbove;
+    }
+    Opening::Opens
+}
+
 // "Opening takes M with entries in −1000..1000 and determinant above 0; X is M cancelled, nothing held." Of any four numbers at all.
 pub fn open(m: [i64; 4]) -> Start
     ensures { λ r. ⌜ r ≡ openOf m ⌝ }
 {
-    let none = State {
-        matrix: [0; 4],
-        held: Held::Nothing,
-    };
-    if !digits::within(m, 1000) {
-        return Start {
-            opening: Opening::OutOfRange,
-            state: none,
+    let opening = opening_of(m);
+    if opening_number(opening) != 0 {
+        let none = State {
+            matrix: [0; 4],
+            held: Held::Nothing,
         };
-    }
-    if plane::determinant(m) <= 0 {
         return Start {
-            opening: Opening::NotAbove,
+            opening,
             state: none,
         };
     }
@@ -122,10 +141,7 @@ pub fn open(m: [i64; 4]) -> Start
         matrix,
         held: Held::Nothing,
     };
-    Start {
-        opening: Opening::Opens,
-        state,
-    }
+    Start { opening, state }
 }
 
 // Whether the held digit, if there is one, is one of n.

@@ -2,7 +2,6 @@
 // `-`; and every byte of the output as it is afterwards, so that a byte that was to stay can be seen to have stayed.
 use unary::Answer;
 use unary::Held;
-use unary::Opening;
 use unary::Start;
 use unary::State;
 use unary::Stop;
@@ -86,14 +85,6 @@ pub fn pieces(e: Stop, s: State, output: &[u8]) {
     rest(s, output);
 }
 
-fn opening_number(v: Opening) -> u8 {
-    match v {
-        Opening::Opens => 0,
-        Opening::OutOfRange => 6,
-        Opening::NotAbove => 11,
-    }
-}
-
 // The line of an opening.
 pub fn opening(m: [i64; 4], r: Start) {
     let v = r.opening;
@@ -101,7 +92,7 @@ pub fn opening(m: [i64; 4], r: Start) {
     text(b"open");
     matrix(m);
     text(b":");
-    number(wide(opening_number(v)));
+    number(wide(unary::opening_number(v)));
     text(b" |");
     state(s);
     text(b"\n");

@@ -1,15 +1,13 @@
--- `jobs::matrix_section` meets its contract: one law for each way that a matrix's section can go, and its contents judged in their order, 6 and then 11.
+-- `jobs::matrix_section` meets its contract: one law for each way that a matrix's section can go, and its contents judged as opening judges them.
 use borrow.Author.Needs.{needs}
-use borrow.Author.Tests.{not-true, not-false}
-use mathlib.Core.Path.{_≡_, sym, ap, _∙_}
-use mathlib.Core.Bool.{true}
+use mathlib.Core.Path.{_≡_, refl, sym, ap, _∙_}
+use mathlib.Core.List.{List}
+use Prim.Native.Nat.{ℕ, zero, suc}
 use native.Mathlib.Omega.{arith}
+use lib.IntN.{ℤ}
 use denote.Ref.{now}
-use Rattle.plane.proofs.Words.{above}
-use Rattle.plane.proofs.Ranges.{within-products}
-use Rattle.digits.specs.Admission.{within?}
-use Rattle.digits.proofs.RowSays.{within-says}
-use Rattle.jobs.specs.Reading.{matrixJudged, matrixRefused, matrixSection}
+use Rattle.unary.specs.State.{openingNumber, openingOf}
+use Rattle.jobs.specs.Reading.{matrixRefused, matrixNumbered, matrixJudged, matrixSection}
 use Rattle.jobs.proofs.Sections.{matrix-no-count, matrix-wrong-count, matrix-cut-off, matrix-whole}
 use Rattle.jobs.proofs.matrix_section.Statement.{statement}
 use Rattle.jobs.proofs.matrix_section.Tie as tie
@@ -25,31 +23,25 @@ whole c =
     let p = c .before .before .before in
     matrix-whole (now (p .before .before .before .args .bytes)) (omega (arith, p .pair-at .ensures)) (omega arith) ∙ ap matrixJudged (sym (c .matrix-in .ensures))
 
--- the four numbers that were found in range
-range : (c : tie.Else4) → within? 1000 (c .before .before .matrix-in .result) ≡ true
-range c = let t = c .before .within in sym (t .ensures) ∙ not-false (t .result) (c .if4 .left)
+-- they are judged as opening judges them
+number-is : (c : tie.After-opening-number) → let m = c .before .before .matrix-in .result in c .opening-number .result ≡ openingNumber (openingOf m)
+number-is c = c .opening-number .ensures ∙ ap openingNumber (c .before .opening-of .ensures)
+
+judged : (c : tie.After-opening-number) → let m = c .before .before in
+    matrixSection (now (m .before .before .before .before .before .before .args .bytes)) ≡ matrixNumbered (m .matrix-in .result) (c .opening-number .result)
+judged c = let m = c .before .before in whole m ∙ ap (matrixNumbered (m .matrix-in .result)) (sym (number-is c))
+
+refused-by : (m : List ℤ) (n : ℕ) → (n ≡ 0 → ⊥) → matrixRefused n ≡ matrixNumbered m n
+refused-by m zero f = absurd (f refl)
+refused-by m (suc n) f = refl
 
 returns-4 : tie.Need-returns-4
 returns-4 c =
-    let t = c .before .before in
-    let e : matrixJudged (t .before .matrix-in .result) ≡ matrixRefused 6 = rw (sym (t .within .ensures) ∙ not-true (t .within .result) (c .before .if4 .taken)) in
-    c .no-matrix4 .ensures ∙ sym (whole (t .before) ∙ e)
+    let n = c .before .before in
+    c .no-matrix4 .ensures ∙ refused-by (n .before .before .matrix-in .result) (n .opening-number .result) (c .before .if4 .taken) ∙ sym (judged n)
 
 returns-5 : tie.Need-returns-5
-returns-5 c =
-    let d = c .before .before in
-    let m = d .before .before .before in
-    let e : matrixJudged (m .matrix-in .result) ≡ matrixRefused 11 =
-    rw (range (d .before), above (d .determinant .ok) (d .determinant .ensures), c .before .if5 .taken) in
-    c .no-matrix5 .ensures ∙ sym (whole m ∙ e)
-
-returns-6 : tie.Need-returns-6
-returns-6 c =
-    let d = c .before in
-    let m = d .before .before .before in
-    let e : matrixJudged (m .matrix-in .result) ≡ record { number = 0; matrix = m .matrix-in .result } =
-    rw (range (d .before), above (d .determinant .ok) (d .determinant .ensures), c .if5 .left) in
-    sym (whole m ∙ e)
+returns-5 c = let n = c .before in sym (judged n ∙ ap (matrixNumbered (n .before .before .matrix-in .result)) (c .if4 .left))
 
 pub matrix-section-spec : {M : Type 1} → statement M
 matrix-section-spec =
@@ -67,8 +59,6 @@ matrix-section-spec =
     (λ c κs. search needs)
     (λ c κs. search needs)
     (λ c κs. search needs)
-    returns-4
-    (λ c κs. within-products (within-says 1000 _ (range c)) tt)
     (λ c κs. search needs)
-    returns-5
-    returns-6)
+    returns-4
+    returns-5)

@@ -6,7 +6,7 @@ use native.Mathlib.Omega.{arith}
 use denote.Ref.{now}
 use Rattle.digits.specs.Admission.{refusalNumber}
 use Rattle.digits.specs.BuiltIn.{filled}
-use Rattle.jobs.specs.Reading.{countOf, numbersAt, systemOf, systemJudged}
+use Rattle.jobs.specs.Reading.{countOf, numbersAt, systemIn, systemJudged}
 use Rattle.jobs.proofs.Sections.{system-no-count, system-none, system-many, system-cut-off, system-whole}
 use Rattle.jobs.proofs.system_section.Statement.{statement}
 use Rattle.jobs.proofs.system_section.Tie as tie
@@ -19,14 +19,14 @@ returns-4 c =
     c .no-system4 .ensures ∙ sym (system-cut-off b (omega arith) (omega (arith, n)) (omega (arith, n)) (omega (arith, n)))
 
 returns-5 : tie.Need-returns-5
-unfolding systemOf
+unfolding systemIn
 returns-5 c =
     let r = c .before .before .before in
     let p = r .before .before .before .before in
     let b = now (p .before .before .before .args .bytes) in
     let n = p .pair-at .result in
     let e : n ≡ countOf b = p .pair-at .ensures .0 in
-    let same : r .rows-in .result ≡ systemOf b .rows = r .rows-in .ensures ∙ ap (λ (k : ℕ). filled (numbersAt b 2 (8 * k))) e in
+    let same : r .rows-in .result ≡ systemIn b .rows = r .rows-in .ensures ∙ ap (λ (k : ℕ). filled (numbersAt b 2 (8 * k))) e in
     let number = c .refusal-number .ensures ∙ ap refusalNumber (c .before .judged .ensures) in
     (λ i. record { number = number i; system = record { count = n; rows = r .rows-in .result } }) ∙
     (λ i. systemJudged (record { count = e i; rows = same i })) ∙

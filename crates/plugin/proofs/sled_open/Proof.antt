@@ -1,10 +1,12 @@
 -- `plugin::sled_open` meets its contract: slices of the wrong length, the two refusals, and the opened state, written as five numbers.
 use borrow.Author.Needs.{needs}
-use mathlib.Core.Path.{_≡_, sym, ap, _∙_}
+use mathlib.Core.Path.{_≡_, refl, sym, ap, _∙_}
+use mathlib.Core.List.{List}
+use Prim.Native.Nat.{ℕ, zero, suc}
+use lib.IntN.{ℤ}
 use denote.Ref.{now}
 use Rattle.whole.proofs.Machine.{ok-back}
 use Rattle.plane.proofs.Words.{entries}
-use Rattle.unary.specs.declared.Opening.{Opening}
 use Rattle.unary.specs.declared.Start.{Start}
 use Rattle.unary.specs.State.{openOf}
 use Rattle.plugin.specs.Calls.{wrote, startNumbers, opened, openCall}
@@ -30,25 +32,34 @@ law o =
     let f1 = f2 .before in
     let l = f1 .before in
     let a = start o .args in
-    let m = entries (ok-back (f1 .t9 .given)) (ok-back (f2 .t11 .given)) (ok-back (f3 .t13 .given)) (ok-back (f4 .t15 .given)) in
+    let m = entries (ok-back (f1 .t10 .given)) (ok-back (f2 .t12 .given)) (ok-back (f3 .t14 .given)) (ok-back (f4 .t16 .given)) in
     opens (now (a .matrix)) (now (a .state)) (l .before .if1 .left) (l .if2 .left)
     ∙ sym (ap (λ (r : Start). opened r (now (a .state))) (o .«open» .ensures ∙ ap openOf m))
 
-told : (o : tie.After-open) (v : Opening) → o .«open» .result .opening ≡ v → let a = start o .args in
-    openCall (now (a .matrix)) (now (a .state)) ≡ startNumbers v (o .«open» .result) (now (a .state))
-told o v e = law o ∙ ap (λ (x : Opening). startNumbers x (o .«open» .result) (now (start o .args .state))) e
+-- the number decides
+abbrev opening : tie.After-opening-number → tie.After-open
+opening c = c .before .before
+
+numbered : (c : tie.After-opening-number) → let o = opening c in let a = start o .args in
+    openCall (now (a .matrix)) (now (a .state)) ≡ startNumbers (c .opening-number .result) (o .«open» .result) (now (a .state))
+numbered c = let o = opening c in law o ∙ ap (λ (n : ℕ). startNumbers n (o .«open» .result) (now (start o .args .state))) (sym (c .opening-number .ensures))
+
+refused : (n : ℕ) (r : Start) (old : List ℤ) → (n ≡ 0 → ⊥) → wrote n old ≡ startNumbers n r old
+refused zero r old f = absurd (f refl)
+refused (suc n) r old f = refl
 
 returns-3 : tie.Need-returns-3
-returns-3 c = sym (told (c .before .before .before) _ (c .enum-told .given .1))
+returns-3 c =
+    let n = c .before in
+    let o = opening n in
+    refused (n .opening-number .result) (o .«open» .result) (now (start o .args .state)) (c .if3 .taken) ∙ sym (numbered n)
 
 returns-4 : tie.Need-returns-4
-returns-4 c = sym (told (c .before .before .before) _ (c .enum-told2 .given .1))
-
-returns-5 : tie.Need-returns-5
-returns-5 c =
+returns-4 c =
     let p = c .before in
-    let t = p .before .before in
-    ap (wrote 0) (p .put-state .ensures) ∙ sym (told (t .before .before .before) _ (t .enum-told3 .given .1))
+    let l = p .before .before in
+    let o = opening (l .before) in
+    ap (wrote 0) (p .put-state .ensures) ∙ sym (numbered (l .before) ∙ ap (λ (n : ℕ). startNumbers n (o .«open» .result) (now (start o .args .state))) (l .if3 .left))
 
 pub sled-open-spec : {M : Type 1} → statement M
 sled-open-spec =
@@ -61,11 +72,9 @@ sled-open-spec =
     (λ c. search needs)
     (λ c. search needs)
     (λ c κs. search needs)
-    (λ c. search needs)
-    (λ c. search needs)
-    (λ c. search needs)
     (λ c κs. search needs)
-    returns-3
-    returns-4
     (λ c. search needs)
-    returns-5)
+    returns-3
+    (λ c κs. search needs)
+    (λ c. search needs)
+    returns-4)

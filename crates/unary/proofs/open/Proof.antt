@@ -1,46 +1,56 @@
--- `unary::open` meets its contract: "Opening: 6, then 11", and the matrix cancelled.
+-- `unary::open` meets its contract: the answer of `opening_of` decides, and where it opens, the matrix is cancelled.
 use borrow.Author.Needs.{needs}
-use borrow.Author.Tests.{not-true, not-false}
-use mathlib.Core.Path.{_≡_, sym, _∙_}
-use mathlib.Core.Bool.{true}
+use mathlib.Core.Path.{_≡_, refl, sym, ap, subst, _∙_}
+use native.Mathlib.Omega.{arith}
+use mathlib.Core.List.{List}
+use lib.IntN.{ℤ}
 use Rattle.whole.proofs.Range.{within-le}
-use Rattle.whole.proofs.Test.{lt-true}
-use Rattle.plane.proofs.Words.{above}
 use Rattle.plane.proofs.Cancelling.{divisor-above}
-use Rattle.plane.proofs.Ranges.{within-products}
-use Rattle.digits.specs.Admission.{within?}
-use Rattle.digits.proofs.RowSays.{within-says}
 use Rattle.unary.specs.declared.Held.the-variants.{Nothing}
-use Rattle.unary.specs.declared.Opening.the-variants.{Opens}
-use Rattle.unary.specs.State.{openOf}
+use Rattle.unary.specs.declared.Opening.{Opening}
+use Rattle.unary.specs.declared.Opening.the-variants.{Opens, OutOfRange, NotAbove}
+use Rattle.unary.specs.State.{openingNumber, openingOf, OpeningCase, refusedStart, startOf, openOf}
+use Rattle.unary.proofs.Keeps.{opening-says}
 use Rattle.unary.proofs.open.Statement.{statement}
 use Rattle.unary.proofs.open.Tie as tie
 
+-- a number tells whether it opens
+opens : (v : Opening) → openingNumber v ≡ 0 → v ≡ Opens
+opens Opens e = refl
+opens OutOfRange e = absurd (omega arith)
+opens NotAbove e = absurd (omega arith)
+
+refuses : (m : List ℤ) (v : Opening) → (openingNumber v ≡ 0 → ⊥) → refusedStart v ≡ startOf m v
+refuses m Opens f = absurd (f refl)
+refuses m OutOfRange f = refl
+refuses m NotAbove f = refl
+
 returns : tie.Need-returns
 unfolding openOf
-returns c = let t = c .before .within in rw (sym (t .ensures) ∙ not-true (t .result) (c .if1 .taken))
+returns c =
+    let n = c .before in
+    let v = n .before .opening-of in
+    let m = n .before .before .args .m in
+    refuses m (v .result) (λ z. c .if1 .taken (n .opening-number .ensures ∙ z)) ∙ ap (startOf m) (v .ensures)
 
--- the entries lie in −1000..1000
-near : (c : tie.Else1) → within? 1000 (c .before .before .args .m) ≡ true
-near c = let t = c .before .within in sym (t .ensures) ∙ not-false (t .result) (c .if1 .left)
+-- it opens
+opened : (c : tie.Else1) → c .before .before .opening-of .result ≡ Opens
+opened c = opens _ (sym (c .before .opening-number .ensures) ∙ c .if1 .left)
 
-determinant-requires : tie.Need-determinant-requires
-determinant-requires c κs = within-products (within-says 1000 _ (near c)) tt
-
-returns-2 : tie.Need-returns-2
-unfolding openOf
-returns-2 c = let d = c .before in rw (near (d .before), above (d .determinant .ok) (d .determinant .ensures), c .if2 .taken)
+matrix-opens : (c : tie.Else1) → openingOf (c .before .before .before .args .m) ≡ Opens
+matrix-opens c = sym (c .before .before .opening-of .ensures) ∙ opened c
 
 cancel-requires : tie.Need-cancel-requires
 cancel-requires c κs =
-    let d = c .before in
-    (within-le (within-says 1000 _ (near (d .before))) tt, divisor-above {m = d .before .before .before .args .m} (record { above = lt-true _ _ (rw (above (d .determinant .ok) (d .determinant .ensures), c .if2 .left)) }))
+    let m = c .before .before .before .args .m in
+    let o : OpeningCase m Opens = subst (OpeningCase m) (matrix-opens c) (opening-says m) in
+    (within-le (o .0) tt, divisor-above {m = m} (record { above = o .1 }))
 
-returns-3 : tie.Need-returns-3
+returns-2 : tie.Need-returns-2
 unfolding openOf
-returns-3 c =
-    let d = c .before .before in
-    rw (near (d .before), above (d .determinant .ok) (d .determinant .ensures), c .before .if2 .left) (λ i. record { opening = Opens; state = record { matrix = c .cancel .ensures i; held = Nothing } })
+returns-2 c =
+    let e = c .before in
+    (λ i. record { opening = opened e i; state = record { matrix = c .cancel .ensures i; held = Nothing } }) ∙ sym (ap (startOf (e .before .before .before .args .m)) (matrix-opens e))
 
 pub open-spec : {M : Type 1} → statement M
-open-spec = tie.close (tie.spec (λ c κs. search needs) returns determinant-requires returns-2 cancel-requires returns-3)
+open-spec = tie.close (tie.spec (λ c κs. search needs) (λ c κs. search needs) returns cancel-requires returns-2)
