@@ -13,29 +13,25 @@ fn admitted(label: &[u8], s: System) {
     print::text(b"\n");
 }
 
+// The run of document 01 between two systems.
+fn same_run(label: &[u8], inputs: System, outputs: System) {
+    runs::case(
+        label,
+        inputs,
+        outputs,
+        states::opened([2, 1, 1, 2]),
+        &[0, 0, 1],
+        4,
+    );
+}
+
 // One system at three places: admission, a run's input, a run's output.
 fn system(label: &[u8], s: System) {
     admitted(label, s);
-    let mut a = [9u8; 4];
     print::text(label);
-    runs::case(
-        b", input:",
-        s,
-        digits::system_r(),
-        states::opened([2, 1, 1, 2]),
-        &[0, 0, 1],
-        &mut a,
-    );
-    let mut b = [9u8; 4];
+    same_run(b", input:", s, digits::system_r());
     print::text(label);
-    runs::case(
-        b", output:",
-        digits::system_r(),
-        s,
-        states::opened([2, 1, 1, 2]),
-        &[0, 0, 1],
-        &mut b,
-    );
+    same_run(b", output:", digits::system_r(), s);
 }
 
 pub fn counts() {
@@ -88,6 +84,10 @@ pub fn rows_in_order() {
         b"row 1 breaks 7 and 8",
         systems::with(systems::with(r, 11, 0), 14, 0),
     );
+}
+
+pub fn rows_before_the_gap() {
+    let r = digits::system_r();
     admitted(
         b"row 2 breaks 7, and a gap",
         systems::with(systems::counted(r, 3), 19, 0),
@@ -98,27 +98,32 @@ pub fn rows_in_order() {
     );
 }
 
+fn between(label: &[u8], inputs: System, outputs: System) {
+    runs::case(label, inputs, outputs, states::bare([2, 0, 0, 2]), &[4], 2);
+}
+
 // The input system before the output system, and both before the state.
 pub fn places_in_order() {
     let r = digits::system_r();
     let seven = systems::with(r, 11, 0);
     let eight = systems::with(r, 6, 0);
-    let bad = states::bare([2, 0, 0, 2]);
-    let mut a = [9u8; 2];
-    runs::case(b"7, 8 and 12:", seven, eight, bad, &[4], &mut a);
-    let mut b = [9u8; 2];
-    runs::case(b"8, 7 and 12:", eight, seven, bad, &[4], &mut b);
-    let mut c = [9u8; 2];
-    runs::case(b"none, 7 and 12:", r, seven, bad, &[4], &mut c);
-    let mut d = [9u8; 2];
-    runs::case(b"none, none and 12:", r, r, bad, &[4], &mut d);
-    let mut none = [9u8; 0];
-    runs::case(b"12, no room, no input:", r, r, bad, &[], &mut none);
+    between(b"7, 8 and 12:", seven, eight);
+    between(b"8, 7 and 12:", eight, seven);
+    between(b"none, 7 and 12:", r, seven);
+    between(b"none, none and 12:", r, r);
+}
+
+pub fn state_before_the_steps() {
+    runs::case_r(
+        b"12, no room, no input:",
+        states::bare([2, 0, 0, 2]),
+        &[],
+        0,
+    );
 }
 
 fn state(label: &[u8], s: State) {
-    let mut output = [9u8; 4];
-    runs::case_r(label, s, &[0, 0, 1], &mut output);
+    runs::case_r(label, s, &[0, 0, 1], 4);
 }
 
 pub fn states() {
@@ -126,9 +131,15 @@ pub fn states() {
     state(b"det 0:", states::bare([1, 1, 1, 1]));
     state(b"det -3:", states::bare([1, 2, 2, 1]));
     state(b"all 0:", states::bare([0, 0, 0, 0]));
+}
+
+pub fn held_digits() {
     state(b"held 3:", states::holding([2, 1, 1, 2], 3));
     state(b"held 4:", states::holding([2, 1, 1, 2], 4));
     state(b"held 255:", states::holding([2, 1, 1, 2], 255));
+}
+
+pub fn widest_states() {
     state(
         b"largest i64:",
         states::bare([9223372036854775807, 0, 0, 1]),
@@ -140,37 +151,34 @@ pub fn states() {
 }
 
 fn doubled(label: &[u8], m: [i64; 4]) {
-    let mut output = [9u8; 2];
     runs::case(
         label,
         digits::system_d(),
         digits::system_r(),
         states::bare(m),
         &[3],
-        &mut output,
+        2,
     );
 }
 
 // A digit whose state does not fit is not written; where there is no room, that is said first.
 pub fn given() {
     let s = states::bare([-760000000, -2, 400000000, 1]);
-    let mut two = [9u8; 2];
     runs::case(
         b"given out of range:",
         digits::system_r(),
         digits::system_d(),
         s,
         &[0],
-        &mut two,
+        2,
     );
-    let mut none = [9u8; 0];
     runs::case(
         b"the same, room 0:",
         digits::system_r(),
         digits::system_d(),
         s,
         &[0],
-        &mut none,
+        0,
     );
 }
 
@@ -180,6 +188,9 @@ pub fn range() {
     state(b"1000000001 first:", states::bare([1000000001, 0, 0, 1]));
     state(b"-1000000000 second:", states::bare([1, -1000000000, 0, 1]));
     state(b"-1000000001 second:", states::bare([1, -1000000001, 0, 1]));
+}
+
+pub fn range_below() {
     state(b"1000000000 third:", states::bare([1, 0, 1000000000, 1]));
     state(b"1000000001 third:", states::bare([1, 0, 1000000001, 1]));
     state(b"1000000000 last:", states::bare([1, 0, 0, 1000000000]));
@@ -202,35 +213,14 @@ pub fn rubbish() {
     let high = systems::filled(r, 32, 32767);
     admitted(b"rubbish", low);
     admitted(b"other rubbish", high);
-    let mut a = [9u8; 4];
-    runs::case(
-        b"no rubbish:",
-        r,
-        r,
-        states::opened([2, 1, 1, 2]),
-        &[0, 0, 1],
-        &mut a,
-    );
-    let mut b = [9u8; 4];
-    runs::case(
-        b"rubbish:",
-        low,
-        high,
-        states::opened([2, 1, 1, 2]),
-        &[0, 0, 1],
-        &mut b,
-    );
-    let mut c = [9u8; 4];
-    runs::case(
-        b"other rubbish:",
-        high,
-        low,
-        states::opened([2, 1, 1, 2]),
-        &[0, 0, 1],
-        &mut c,
-    );
+    same_run(b"no rubbish:", r, r);
+    same_run(b"rubbish:", low, high);
+    same_run(b"other rubbish:", high, low);
+}
+
+pub fn rubbish_behind_three() {
     system(
         b"three digits and rubbish",
-        systems::filled(systems::counted(r, 3), 24, 77),
+        systems::filled(systems::counted(digits::system_r(), 3), 24, 77),
     );
 }

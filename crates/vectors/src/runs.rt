@@ -5,8 +5,8 @@ use crate::systems;
 use digits::System;
 use unary::State;
 
-// One run, printed behind its label. It hands the state on.
-pub fn case(
+// One run into a lent room, printed behind its label. It hands the state on.
+fn into(
     label: &[u8],
     inputs: System,
     outputs: System,
@@ -21,31 +21,44 @@ pub fn case(
     t
 }
 
+// The same with room for so many digits, at most eight.
+pub fn case(
+    label: &[u8],
+    inputs: System,
+    outputs: System,
+    s: State,
+    word: &[u8],
+    room: usize,
+) -> State {
+    let mut output = [9u8; 8];
+    if 8 < room {
+        return s;
+    }
+    into(label, inputs, outputs, s, word, &mut output[..room])
+}
+
 // The same between R and R.
-pub fn case_r(label: &[u8], s: State, word: &[u8], output: &mut [u8]) -> State {
-    case(
-        label,
-        digits::system_r(),
-        digits::system_r(),
-        s,
-        word,
-        output,
-    )
+pub fn case_r(label: &[u8], s: State, word: &[u8], room: usize) -> State {
+    case(label, digits::system_r(), digits::system_r(), s, word, room)
 }
 
 // The same from an opened session, with room for eight digits.
 fn fresh(label: &[u8], inputs: System, outputs: System, m: [i64; 4], word: &[u8]) {
-    let mut output = [9u8; 8];
-    case(label, inputs, outputs, states::opened(m), word, &mut output);
+    case(label, inputs, outputs, states::opened(m), word, 8);
 }
 
 pub fn built_in() {
-    let r = digits::system_r();
     let b = digits::system_b();
     let d = digits::system_d();
     fresh(b"B to B:", b, b, [1, 0, 0, 1], &[1]);
     fresh(b"B to D:", b, d, [5, -2, 1, 3], &[0, 7, 3, 1, 6, 2]);
     fresh(b"D to B:", d, b, [-7, 2, -3, -1], &[3, 3, 1, 0, 2, 1]);
+}
+
+pub fn built_in_with_r() {
+    let r = digits::system_r();
+    let b = digits::system_b();
+    let d = digits::system_d();
     fresh(b"R to B:", r, b, [1, 0, 0, 1000], &[2, 2, 3, 2, 3, 3]);
     fresh(b"D to R:", d, r, [1, 2, -1, 3], &[1, 2, 2, 0]);
 }
@@ -95,14 +108,13 @@ const ENDLESS: [u8; 40] = [
 ];
 
 fn third_of(label: &[u8], word: &[u8]) {
-    let mut output = [9u8; 4];
     case(
         label,
         digits::system_d(),
         digits::system_r(),
         states::opened([3, -1, 0, 1]),
         word,
-        &mut output,
+        4,
     );
 }
 
@@ -117,80 +129,79 @@ pub fn third() {
     third_of(b"D to R, 40 digits:", &word);
     third_cut(b"D to R, 31 digits:", &word, 31);
     third_cut(b"D to R, 30 digits:", &word, 30);
+}
+
+pub fn third_shorter() {
+    let word = ENDLESS;
     third_cut(b"D to R, 29 digits:", &word, 29);
     third_cut(b"D to R, 28 digits:", &word, 28);
     third_cut(b"D to R, no digits:", &word, 0);
 }
 
-fn identity(label: &[u8], word: &[u8], output: &mut [u8]) {
+fn identity(label: &[u8], word: &[u8], room: usize) {
     case(
         label,
         systems::identities(),
         systems::identities(),
         states::opened([1, 0, 0, 1]),
         word,
-        output,
+        room,
     );
 }
 
-pub fn identities() {
+pub fn identities_admitted() {
     print::text(b"identities, admit:");
     print::number(digits::refusal_number(digits::admit(systems::identities())) as u64);
     print::text(b"\n");
-    let mut none = [9u8; 0];
-    identity(b"identities, room 0:", &[0], &mut none);
-    let mut one = [9u8; 1];
-    identity(b"identities, room 1:", &[0], &mut one);
-    let mut five = [9u8; 5];
-    identity(b"identities, room 5:", &[0], &mut five);
-    let mut two = [9u8; 2];
-    identity(b"identities, digit 1:", &[1, 0], &mut two);
+}
+
+pub fn identities() {
+    identity(b"identities, room 0:", &[0], 0);
+    identity(b"identities, room 1:", &[0], 1);
+    identity(b"identities, room 5:", &[0], 5);
+    identity(b"identities, digit 1:", &[1, 0], 2);
+}
+
+fn in_room(label: &[u8], room: usize) {
+    case_r(label, states::opened([2, 1, 1, 2]), &[0, 0, 1], room);
 }
 
 // The job of document 01 with every room from none to one more than it needs.
 pub fn rooms() {
-    let s = states::opened([2, 1, 1, 2]);
-    let mut none = [9u8; 0];
-    case_r(b"R to R, room 0:", s, &[0, 0, 1], &mut none);
-    let mut one = [9u8; 1];
-    case_r(b"R to R, room 1:", s, &[0, 0, 1], &mut one);
-    let mut two = [9u8; 2];
-    case_r(b"R to R, room 2:", s, &[0, 0, 1], &mut two);
-    let mut three = [9u8; 3];
-    case_r(b"R to R, room 3:", s, &[0, 0, 1], &mut three);
-    let mut four = [9u8; 4];
-    case_r(b"R to R, room 4:", s, &[0, 0, 1], &mut four);
+    in_room(b"R to R, room 0:", 0);
+    in_room(b"R to R, room 1:", 1);
+    in_room(b"R to R, room 2:", 2);
+    in_room(b"R to R, room 3:", 3);
+    in_room(b"R to R, room 4:", 4);
+}
+
+fn bytes_of_r(label: &[u8], word: [u8; 3]) {
+    case_r(label, states::opened([2, 1, 1, 2]), &word, 4);
 }
 
 // Bytes that are no digits of R, at each place of a word.
 pub fn bytes() {
-    let s = states::opened([2, 1, 1, 2]);
-    let mut a = [9u8; 4];
-    case_r(b"byte 4 first:", s, &[4, 0, 1], &mut a);
-    let mut b = [9u8; 4];
-    case_r(b"byte 4 second:", s, &[0, 4, 1], &mut b);
-    let mut c = [9u8; 4];
-    case_r(b"byte 255 last:", s, &[0, 0, 255], &mut c);
-    let mut none = [9u8; 0];
-    case_r(b"byte 4, room 0:", s, &[4], &mut none);
-    let mut d = [9u8; 4];
+    bytes_of_r(b"byte 4 first:", [4, 0, 1]);
+    bytes_of_r(b"byte 4 second:", [0, 4, 1]);
+    bytes_of_r(b"byte 255 last:", [0, 0, 255]);
+    case_r(b"byte 4, room 0:", states::opened([2, 1, 1, 2]), &[4], 0);
+}
+
+fn byte_of_b(label: &[u8], byte: u8) {
     case(
-        b"byte 7 of B:",
+        label,
         digits::system_b(),
         digits::system_r(),
-        s,
-        &[7],
-        &mut d,
+        states::opened([2, 1, 1, 2]),
+        &[byte],
+        4,
     );
-    let mut e = [9u8; 4];
-    case(
-        b"byte 8 of B:",
-        digits::system_b(),
-        digits::system_r(),
-        s,
-        &[8],
-        &mut e,
-    );
+}
+
+// The last digit of B, and the byte behind it.
+pub fn bytes_of_b() {
+    byte_of_b(b"byte 7 of B:", 7);
+    byte_of_b(b"byte 8 of B:", 8);
 }
 
 fn open(m: [i64; 4]) {

@@ -2,74 +2,84 @@
 use crate::print;
 use crate::runs;
 use crate::states;
+use unary::State;
 
-pub fn more_room() {
-    let mut one = [9u8; 1];
+fn little_room() -> State {
     let s = runs::case_r(
         b"R to R, room 1:",
         states::opened([2, 1, 1, 2]),
         &[0, 0, 1],
-        &mut one,
+        1,
     );
-    let mut none = [9u8; 0];
-    let t = runs::case_r(b"no more room:", s, &[0, 1], &mut none);
-    let mut next = [9u8; 1];
-    let u = runs::case_r(b"room 1 more:", t, &[0, 1], &mut next);
-    let mut last = [9u8; 2];
-    runs::case_r(b"room 2 more:", u, &[], &mut last);
+    runs::case_r(b"no more room:", s, &[0, 1], 0)
+}
+
+pub fn more_room() {
+    let u = runs::case_r(b"room 1 more:", little_room(), &[0, 1], 1);
+    runs::case_r(b"room 2 more:", u, &[], 2);
+}
+
+fn little_input() -> State {
+    let s = runs::case_r(b"R to R, no input:", states::opened([2, 1, 1, 2]), &[], 4);
+    runs::case_r(b"input 0:", s, &[0], 4)
 }
 
 pub fn more_input() {
-    let mut a = [9u8; 4];
-    let s = runs::case_r(
-        b"R to R, no input:",
-        states::opened([2, 1, 1, 2]),
-        &[],
-        &mut a,
-    );
-    let mut b = [9u8; 4];
-    let t = runs::case_r(b"input 0:", s, &[0], &mut b);
-    let mut c = [9u8; 4];
-    let u = runs::case_r(b"input 0 1 4 2:", t, &[0, 1, 4, 2], &mut c);
-    let mut d = [9u8; 4];
-    runs::case_r(b"behind the byte 4:", u, &[2, 3, 2], &mut d);
+    let u = runs::case_r(b"input 0 1 4 2:", little_input(), &[0, 1, 4, 2], 4);
+    runs::case_r(b"behind the byte 4:", u, &[2, 3, 2], 4);
 }
 
 // Each end once more, with the bytes not taken and the room not filled: "stops the same way, 0 and 0".
 pub fn again() {
-    let mut a = [9u8; 4];
-    let s = runs::case_r(b"end 0:", states::opened([2, 1, 1, 2]), &[0], &mut a);
-    let mut b = [9u8; 2];
-    runs::case_r(b"again:", s, &[], &mut b);
-    let mut c = [9u8; 2];
-    let t = runs::case_r(b"end 20:", states::opened([2, 1, 1, 2]), &[0, 0, 1], &mut c);
-    let mut none = [9u8; 0];
-    runs::case_r(b"again:", t, &[], &mut none);
+    let s = runs::case_r(b"end 0:", states::opened([2, 1, 1, 2]), &[0], 4);
+    runs::case_r(b"again:", s, &[], 2);
 }
 
-pub fn again_with_input() {
-    let mut d = [9u8; 4];
-    let u = runs::case_r(b"end 21:", states::opened([2, 1, 1, 2]), &[0, 9, 1], &mut d);
-    let mut e = [9u8; 2];
-    runs::case_r(b"again:", u, &[9, 1], &mut e);
-    let mut f = [9u8; 2];
+pub fn again_without_room() {
+    let t = runs::case_r(b"end 20:", states::opened([2, 1, 1, 2]), &[0, 0, 1], 2);
+    runs::case_r(b"again:", t, &[], 0);
+}
+
+pub fn again_before_the_byte() {
+    let u = runs::case_r(b"end 21:", states::opened([2, 1, 1, 2]), &[0, 9, 1], 4);
+    runs::case_r(b"again:", u, &[9, 1], 2);
+}
+
+pub fn again_out_of_range() {
     let v = runs::case(
         b"end 22:",
         digits::system_d(),
         digits::system_r(),
         states::bare([500000001, 0, 0, 1]),
         &[3, 1],
-        &mut f,
+        2,
     );
-    let mut g = [9u8; 2];
     runs::case(
         b"again:",
         digits::system_d(),
         digits::system_r(),
         v,
         &[1],
-        &mut g,
+        2,
     );
+}
+
+// The second piece, into the room behind the w digits of the first.
+fn rest(s: State, word: &[u8], output: &mut [u8], w: usize) {
+    if output.len() < w {
+        return;
+    }
+    let b = unary::run(
+        digits::system_r(),
+        digits::system_d(),
+        s,
+        word,
+        &mut output[w..],
+    );
+    let e = b.stop;
+    let t = b.state;
+    print::text(b"R to D, cut:");
+    print::pieces(e, t, output);
 }
 
 // A word of R, run into D in two pieces, cut behind the first k bytes.
@@ -85,21 +95,7 @@ fn cut(word: &[u8], k: usize, output: &mut [u8]) {
         output,
     );
     let s = a.state;
-    let w = a.written.0;
-    if output.len() < w {
-        return;
-    }
-    let b = unary::run(
-        digits::system_r(),
-        digits::system_d(),
-        s,
-        &word[k..],
-        &mut output[w..],
-    );
-    let e = b.stop;
-    let t = b.state;
-    print::text(b"R to D, cut:");
-    print::pieces(e, t, output);
+    rest(s, &word[k..], output, a.written.0);
 }
 
 fn cut_fresh(word: &[u8], k: usize) {
