@@ -3,25 +3,33 @@ use mathlib.Core.Path.{_≡_, refl, sym, ap, _∙_}
 use mathlib.Core.Bool.{Bool, true, false, cond}
 use mathlib.Core.Option.{none, some}
 use Prim.Native.Nat.{ℕ, zero, suc, _+_, _-_, _<_, _≤_}
+use native.Mathlib.Nat.{sub-zero}
 use native.Mathlib.Omega.{arith}
 use native.Mathlib.Numerals.{add-one}
 use native.Mathlib.Decide.{ℕ-discrete}
 use Rattle.digits.specs.First.{first}
 
--- ---- a loop that stands at i, with n − i numbers left
+-- ---- a loop that searches, and stands at i: what it will find is what the whole search finds. It begins so, it goes on so where i doesn't pass, and it ends with i
+-- where i passes, or with none.
 
-module _ (t : ℕ → Bool) (n i : ℕ) where
-  pub hit : i < n → t i ≡ true → first t (n - i) i ≡ some i
-  unfolding first
-  hit h e = let k : n - i ≡ suc (n - suc i) = omega arith in rw (k, e)
+pub record Standing (t : ℕ → Bool) (n i : ℕ) : Type 0 where
+  pub rest : first t n 0 ≡ first t (n - i) i
 
-  pub miss : i < n → t i ≡ false → first t (n - i) i ≡ first t (n - (i + 1)) (i + 1)
-  unfolding first
-  miss h e = let k : n - i ≡ suc (n - suc i) = omega arith in rw (k, e, add-one)
+pub begins : {t : ℕ → Bool} {n : ℕ} → Standing t n 0
+begins = record { rest = rw sub-zero }
 
-  pub over : n ≤ i → first t (n - i) i ≡ none
+module _ {t : ℕ → Bool} {n i : ℕ} (s : Standing t n i) where
+  pub misses : i < n → t i ≡ false → Standing t n (i + 1)
   unfolding first
-  over h = let k : n - i ≡ 0 = omega arith in rw k
+  misses h e = let k : n - i ≡ suc (n - suc i) = omega arith in record { rest = s .rest ∙ rw (k, e, add-one) }
+
+  pub hits : i < n → t i ≡ true → first t n 0 ≡ some i
+  unfolding first
+  hits h e = let k : n - i ≡ suc (n - suc i) = omega arith in s .rest ∙ rw (k, e)
+
+  pub ends : n ≤ i → first t n 0 ≡ none
+  unfolding first
+  ends h = let k : n - i ≡ 0 = omega arith in s .rest ∙ rw k
 
 -- ---- what the answer says: the number found passes, and none before it does
 

@@ -3,15 +3,14 @@ use borrow.Author.Needs.{needs}
 use mathlib.Core.Path.{_≡_, sym, ap, _∙_, subst}
 use mathlib.Core.Bool.{Bool}
 use mathlib.Core.List.{List}
-use Prim.Native.Nat.{ℕ, _-_, _≤_}
-use native.Mathlib.Nat.{sub-zero}
+use Prim.Native.Nat.{ℕ, _-_}
 use lib.IntN.{ℤ}
 use denote.Ref.{now}
 use Rattle.whole.specs.Range.{Within}
-use Rattle.digits.specs.First.{first, found?}
+use Rattle.digits.specs.First.{found?}
 use Rattle.digits.specs.System.{intervalOf}
 use Rattle.digits.specs.Admission.{goesOn?}
-use Rattle.digits.proofs.First.{hit, miss, over}
+use Rattle.digits.proofs.First.{Standing, begins, misses, hits, ends}
 use Rattle.digits.proofs.gone_on.Statement.{statement}
 use Rattle.digits.proofs.gone_on.Tie as tie
 
@@ -19,22 +18,10 @@ abbrev test : List ℤ → List ℤ → ℕ → Bool
 test rows v b = goesOn? v (intervalOf rows b)
 
 abbrev Inv-loop : tie.InvT-loop
-Inv-loop rows n v b₀ b = (b ≤ n) × (first (test rows v) n 0 ≡ first (test rows v) (n - b) b)
+Inv-loop rows n v b₀ b = Standing (test rows v) n b
 
 abbrev μ-loop : tie.MeasureT-loop
 μ-loop rows n v b₀ b = n - b
-
-loop-holds : tie.Need-loop-holds Inv-loop μ-loop
-loop-holds c = (search needs, rw sub-zero)
-
-mul-four-at : tie.Need-mul-four-at Inv-loop μ-loop
-mul-four-at c = search needs
-
-add-four-at : tie.Need-add-four-at Inv-loop μ-loop
-add-four-at c = search needs
-
-four-at-requires : tie.Need-four-at-requires Inv-loop μ-loop
-four-at-requires c κs = search needs
 
 goes-on-requires : tie.Need-goes-on-requires Inv-loop μ-loop
 goes-on-requires c κs =
@@ -46,37 +33,15 @@ is : (c : tie.After-goes-on Inv-loop μ-loop) → c .goes-on .result ≡ test (n
 is c = c .goes-on .ensures ∙ ap (goesOn? (c .before .before .before .before .args .v)) (c .before .four-at .ensures)
 
 returns : tie.Need-returns Inv-loop μ-loop
-returns c =
-    let l = c .before .before .before in
-    sym (ap found? (l .before .loop .inv .1 ∙ hit _ _ _ (l .loop-test .taken) (sym (is (c .before)) ∙ c .if1 .taken)))
-
-add-b : tie.Need-add-b Inv-loop μ-loop
-add-b c = search needs
-
-loop-less : tie.Need-loop-less Inv-loop μ-loop
-loop-less c = search needs
+returns c = let l = c .before .before .before in sym (ap found? (hits (l .before .loop .inv) (l .loop-test .taken) (sym (is (c .before)) ∙ c .if1 .taken)))
 
 loop-again : tie.Need-loop-again Inv-loop μ-loop
-loop-again c =
-    let l = c .before .before .before in
-    (search needs, l .before .loop .inv .1 ∙ miss _ _ _ (l .loop-test .taken) (sym (is (c .before)) ∙ c .if1 .left))
+loop-again c = let l = c .before .before .before in misses (l .before .loop .inv) (l .loop-test .taken) (sym (is (c .before)) ∙ c .if1 .left)
 
 returns-2 : tie.Need-returns-2 Inv-loop μ-loop
-returns-2 c = sym (ap found? (c .before .loop .inv .1 ∙ over _ _ _ (c .loop-test .left)))
+returns-2 c = sym (ap found? (ends (c .before .loop .inv) (c .loop-test .left)))
 
 pub gone-on-spec : {M : Type 1} → statement M
-gone-on-spec =
-    tie.close
-    (tie.spec
-    Inv-loop
-    μ-loop
-    loop-holds
-    mul-four-at
-    add-four-at
-    four-at-requires
-    goes-on-requires
-    returns
-    add-b
-    loop-less
-    loop-again
-    returns-2)
+gone-on-spec = tie.close (tie.spec
+    Inv-loop μ-loop (λ c. begins)
+    (λ c. search needs) (λ c. search needs) (λ c κs. search needs) goes-on-requires returns (λ c. search needs) (λ c. search needs) loop-again returns-2)

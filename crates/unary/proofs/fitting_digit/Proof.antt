@@ -1,36 +1,22 @@
 -- `unary::fitting_digit` meets its contract: "Some U_b includes X·W_held: let b be the smallest", a search for the first digit that fits.
 use borrow.Author.Needs.{needs}
 use mathlib.Core.Path.{_≡_, sym, ap, _∙_, subst}
-use Prim.Native.Nat.{_-_, _≤_}
-use native.Mathlib.Nat.{sub-zero}
+use Prim.Native.Nat.{_-_}
 use native.Mathlib.Omega.{arith}
 use denote.Ref.{now}
 use Rattle.whole.specs.Range.{Within}
 use Rattle.plane.specs.Inclusion.{included?}
-use Rattle.digits.specs.First.{first}
-use Rattle.digits.proofs.First.{hit, miss, over}
+use Rattle.digits.proofs.First.{Standing, begins, misses, hits, ends}
 use Rattle.unary.specs.Step.{fits?, fittingOf}
 use Rattle.unary.specs.Ready.{fitting}
 use Rattle.unary.proofs.fitting_digit.Statement.{statement}
 use Rattle.unary.proofs.fitting_digit.Tie as tie
 
 abbrev Inv-loop : tie.InvT-loop
-Inv-loop m rows image b₀ b = (b ≤ m) × (first (fits? image rows) m 0 ≡ first (fits? image rows) (m - b) b)
+Inv-loop m rows image b₀ b = Standing (fits? image rows) m b
 
 abbrev μ-loop : tie.MeasureT-loop
 μ-loop m rows image b₀ b = m - b
-
-loop-holds : tie.Need-loop-holds Inv-loop μ-loop
-loop-holds c = (search needs, rw sub-zero)
-
-mul-four-at : tie.Need-mul-four-at Inv-loop μ-loop
-mul-four-at c = search needs
-
-add-four-at : tie.Need-add-four-at Inv-loop μ-loop
-add-four-at c = search needs
-
-four-at-requires : tie.Need-four-at-requires Inv-loop μ-loop
-four-at-requires c κs = search needs
 
 included-requires : tie.Need-included-requires Inv-loop μ-loop
 included-requires c κs =
@@ -46,39 +32,16 @@ is c = c .included .ensures ∙ ap (included? (c .before .before .before .before
 
 returns : tie.Need-returns Inv-loop μ-loop
 unfolding fittingOf
-returns c =
-    let l = c .before .before .before in
-    sym (ap fitting (l .before .loop .inv .1 ∙ hit _ _ _ (l .loop-test .taken) (sym (is (c .before)) ∙ c .if1 .taken)))
-
-add-b : tie.Need-add-b Inv-loop μ-loop
-add-b c = search needs
-
-loop-less : tie.Need-loop-less Inv-loop μ-loop
-loop-less c = search needs
+returns c = let l = c .before .before .before in sym (ap fitting (hits (l .before .loop .inv) (l .loop-test .taken) (sym (is (c .before)) ∙ c .if1 .taken)))
 
 loop-again : tie.Need-loop-again Inv-loop μ-loop
-loop-again c =
-    let l = c .before .before .before in
-    (search needs, l .before .loop .inv .1 ∙ miss _ _ _ (l .loop-test .taken) (sym (is (c .before)) ∙ c .if1 .left))
+loop-again c = let l = c .before .before .before in misses (l .before .loop .inv) (l .loop-test .taken) (sym (is (c .before)) ∙ c .if1 .left)
 
 returns-2 : tie.Need-returns-2 Inv-loop μ-loop
 unfolding fittingOf
-returns-2 c = sym (ap fitting (c .before .loop .inv .1 ∙ over _ _ _ (c .loop-test .left)))
+returns-2 c = sym (ap fitting (ends (c .before .loop .inv) (c .loop-test .left)))
 
 pub fitting-digit-spec : {M : Type 1} → statement M
-fitting-digit-spec =
-    tie.close
-    (tie.spec
-    Inv-loop
-    μ-loop
-    loop-holds
-    mul-four-at
-    add-four-at
-    four-at-requires
-    included-requires
-    cast-t10
-    returns
-    add-b
-    loop-less
-    loop-again
-    returns-2)
+fitting-digit-spec = tie.close (tie.spec
+    Inv-loop μ-loop (λ c. begins)
+    (λ c. search needs) (λ c. search needs) (λ c κs. search needs) included-requires cast-t10 returns (λ c. search needs) (λ c. search needs) loop-again returns-2)
