@@ -1,6 +1,6 @@
 /* Feeds a word in pieces and prints the digits as they come.
 
-     include/build && include/run feed
+     include/build && ./run feed
 
    The session computes (2x + 1) / (x + 2) of a number x that is written in system R, and writes the answer in system R too. The word comes in pieces of three digits, as it
    might from a user's keys, and the room for the output is small on purpose: where a run stops for want of room, it is called again with the bytes that it did not take. */
