@@ -1,10 +1,7 @@
-// Stored cases over the library's public functions, one line each; stdout beside src/ has what it must print. expected.py computes the same lines in another way.
-mod print;
-mod refusals;
+// Stored cases over the library's public functions, one line each: runs and sessions. stdout beside src/ has what it must print; crates/cases/expected.py computes the
+// same lines in another way.
 mod runs;
 mod sessions;
-mod states;
-mod systems;
 
 fn main() {
     runs::built_in();
@@ -24,21 +21,4 @@ fn main() {
     sessions::again_before_the_byte();
     sessions::again_out_of_range();
     sessions::cuts();
-    refusals::counts();
-    refusals::numbers();
-    refusals::determinants();
-    refusals::terms_and_gaps();
-    refusals::rows_in_order();
-    refusals::rows_before_the_gap();
-    refusals::places_in_order();
-    refusals::state_before_the_steps();
-    refusals::states();
-    refusals::held_digits();
-    refusals::widest_states();
-    refusals::range();
-    refusals::range_below();
-    refusals::reached();
-    refusals::given();
-    refusals::rubbish();
-    refusals::rubbish_behind_three();
 }

@@ -1,7 +1,7 @@
 // Sessions of several runs: a call that goes on from a stopped state with more room or more input, a call that stops again, and words cut at every place.
-use crate::print;
-use crate::runs;
-use crate::states;
+use cases::print;
+use cases::runs;
+use cases::states;
 use unary::State;
 
 fn little_room() -> State {

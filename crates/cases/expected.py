@@ -1,6 +1,6 @@
 #!/usr/bin/env python3
-"""The lines that the program `vectors` must print, from document 01 alone and in another way than the library's: inclusion and cover are decided by trying one point
-between every two neighbouring ends, and not by the library's tests. `python3 expected.py > stdout` writes the file; `python3 expected.py --check` compares it."""
+"""The lines that the programs `vectors` and `refusals` must print, from document 01 alone and in another way than the library's: inclusion and cover are decided by trying one point
+between every two neighbouring ends, and not by the library's tests. `python3 expected.py` writes crates/vectors/stdout and crates/refusals/stdout; `python3 expected.py --check` compares them."""
 import os, sys
 from functools import cmp_to_key
 from math import gcd
@@ -287,13 +287,21 @@ def states():
     places('three digits and rubbish', filled(counted(r, 3), 24, 77))
 
 
-runs()
-sessions()
-refusals()
-states()
-text = '\n'.join(lines) + '\n'
-if sys.argv[1:] == ['--check']:
-    same = open(os.path.join(os.path.dirname(os.path.abspath(__file__)), 'stdout')).read() == text
-    print(f'{len(lines)} lines: ' + ('the same' if same else 'NOT the same'))
-    sys.exit(0 if same else 1)
-sys.stdout.write(text)
+def text_of(*parts):
+    lines.clear()
+    for part in parts:
+        part()
+    return '\n'.join(lines) + '\n'
+
+
+crates = os.path.join(os.path.dirname(os.path.abspath(__file__)), '..')
+bad = 0
+for crate, parts in (('vectors', (runs, sessions)), ('refusals', (refusals, states))):
+    text, stored = text_of(*parts), os.path.join(crates, crate, 'stdout')
+    if sys.argv[1:] == ['--check']:
+        same = open(stored).read() == text
+        print(f'{crate}, {len(lines)} lines: ' + ('the same' if same else 'NOT the same'))
+        bad += not same
+    else:
+        open(stored, 'w').write(text)
+sys.exit(1 if bad else 0)

@@ -1,10 +1,10 @@
--- `vectors::systems::fill` is safe and ends. The invariant: the rows are as many as before.
+-- `cases::systems::fill` is safe and ends. The invariant: the rows are as many as before.
 use borrow.Author.Needs.{needs}
 use mathlib.Core.Path.{_≡_, refl}
 use Prim.Native.Nat.{_-_}
 use lib.ListN.{length, length-set}
-use Rattle.vectors.proofs.systems.fill.Statement.{statement}
-use Rattle.vectors.proofs.systems.fill.Tie as tie
+use Rattle.cases.proofs.systems.fill.Statement.{statement}
+use Rattle.cases.proofs.systems.fill.Tie as tie
 
 abbrev Inv-loop : tie.InvT-loop
 Inv-loop rows₀ from v p₀ rows p = length rows ≡ length rows₀

@@ -1,9 +1,9 @@
--- `vectors::print::bytes` is safe and ends. The measure: the bytes that are left.
+-- `cases::print::bytes` is safe and ends. The measure: the bytes that are left.
 use borrow.Author.Needs.{needs}
 use Prim.Native.Nat.{_-_}
 use lib.ListN.{length}
-use Rattle.vectors.proofs.print.bytes.Statement.{statement}
-use Rattle.vectors.proofs.print.bytes.Tie as tie
+use Rattle.cases.proofs.print.bytes.Statement.{statement}
+use Rattle.cases.proofs.print.bytes.Tie as tie
 
 abbrev Inv-loop : tie.InvT-loop
 Inv-loop b i₀ i = Unit {0}

@@ -1,10 +1,10 @@
--- `vectors::runs::case` is safe: the room is at most the eight bytes that there are.
+-- `cases::runs::case` is safe: the room is at most the eight bytes that there are.
 use borrow.Author.Needs.{needs}
 use mathlib.Core.Path.{sym}
 use native.Mathlib.Omega.{arith}
 use lib.Seq.{length-take-le}
-use Rattle.vectors.proofs.runs.case.Statement.{statement}
-use Rattle.vectors.proofs.runs.case.Tie as tie
+use Rattle.cases.proofs.runs.case.Statement.{statement}
+use Rattle.cases.proofs.runs.case.Tie as tie
 
 slice-aggregate-into : tie.Need-slice-aggregate-into
 slice-aggregate-into c = sym (length-take-le _ _ (omega arith))

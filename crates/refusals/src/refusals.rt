@@ -1,8 +1,8 @@
 // What a run and an admission refuse, number by number and place by place, and what they do not refuse.
-use crate::print;
-use crate::runs;
-use crate::states;
-use crate::systems;
+use cases::print;
+use cases::runs;
+use cases::states;
+use cases::systems;
 use digits::System;
 use unary::State;
 
