@@ -1,6 +1,7 @@
 #!/usr/bin/env python3
-"""The lines that the programs `vectors` and `refusals` must print, from document 01 alone and in another way than the library's: inclusion and cover are decided by trying one point
-between every two neighbouring ends, and not by the library's tests. `python3 expected.py` writes crates/vectors/stdout and crates/refusals/stdout; `python3 expected.py --check` compares them."""
+"""The lines that the programs `vectors` and `refusals` must print, from document 01 alone and in another way than the library's: inclusion and cover are decided by
+trying one point between every two neighbouring ends, and not by the library's tests. `python3 expected.py` writes crates/vectors/stdout and crates/refusals/stdout;
+`python3 expected.py --check` compares them."""
 import os, sys
 from functools import cmp_to_key
 from math import gcd
