@@ -9,7 +9,7 @@
         or rows of your own.
      2. Open a session for a matrix a b c d: sled_open writes a state of five numbers. They are all that is kept between calls; keep them wherever you like.
      3. Call sled_run with some input bytes, one digit a byte, and some room for output, as often as you like. It says how many bytes it took and how many digits it
-        wrote. A word fed in pieces, and room given in pieces, give the same digits as one call.
+        wrote. Cut the word and the room as you like: hand what a call did not take and did not fill on to the next, with more, and the digits are those of one call.
 
    WHAT IS PROMISED OF EVERY CALL
 

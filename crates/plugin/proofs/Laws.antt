@@ -1,14 +1,16 @@
 -- What each call leaves, by the case that applies.
-use mathlib.Core.Path.{_≡_, refl, ap}
+use mathlib.Core.Path.{_≡_, refl, sym, ap, subst, _∙_}
 use mathlib.Core.Bool.{Bool, true, false, cond, _&&_}
 use mathlib.Core.List.{List}
-use Prim.Native.Nat.{ℕ}
+use Prim.Native.Nat.{ℕ, _*_, _≤_}
 use native.Mathlib.Omega.{arith}
 use lib.Dec.{eqb}
-use lib.ListN.{length}
+use lib.ListN.{length, take}
 use lib.IntN.{ℤ}
 use borrow.Author.Tests.{eq-eqb, ne-eqb, eqb-true}
 use Rattle.plane.specs.Scale.{entries}
+use Rattle.digits.specs.declared.System.{System}
+use Rattle.digits.specs.BuiltIn.{systemOf, filled, joined}
 use Rattle.unary.specs.State.{openOf}
 use Rattle.unary.specs.Run.{runOf}
 use Rattle.jobs.specs.Reading.{readOf}
@@ -24,6 +26,17 @@ handed-shut rows old e = rw (ne-eqb (length old) (length rows) e)
 pub handed : (rows old : List ℤ) → length old ≡ length rows → handedOut rows old ≡ wrote 0 rows
 unfolding handedOut
 handed rows old e = rw (eq-eqb (length old) (length rows) e)
+
+-- of a built-in system in memory, whose table fits: the rows of its digits are there, and they are the table's
+module _ (table : List (List ℤ)) {s : System} (e : s ≡ systemOf table) where
+  pub rows-there : length table ≤ 16 → 8 * length table ≤ length (filled (joined table)) → (s .count ≤ 16) × (8 * s .count ≤ length (s .rows))
+  unfolding systemOf
+  rows-there p q = subst (λ (t : System). (t .count ≤ 16) × (8 * t .count ≤ length (t .rows))) (sym e) (p, q)
+
+  pub handed-rows : take (8 * length table) (filled (joined table)) ≡ joined table → (old : List ℤ) →
+      handedOut (take (8 * s .count) (s .rows)) old ≡ handedOut (joined table) old
+  unfolding systemOf
+  handed-rows p old = ap (λ (t : System). handedOut (take (8 * t .count) (t .rows)) old) e ∙ ap (λ (l : List ℤ). handedOut l old) p
 
 -- opening
 pub open-shut-matrix : (m old : List ℤ) → (length m ≡ 4 → ⊥) → openCall m old ≡ wrote wrongLength old

@@ -5,7 +5,7 @@
 --   Runs, Later               a run as the list of its steps, over which every theorem below is an induction; and from a later place
 --   Judged                    what is judged before any step; refused-untouched
 --   Answers, OneAnswer        in-range and written-only; no second answer fits
---   StopsAgain, CutAnywhere   a stopped run stops again; a word may be fed in pieces
+--   StopsAgain, CutAnywhere   a stopped run stops again; a run may be cut anywhere, in its input and in its room
 --   UnusedRows, StepCount     rows of digits that a system hasn't got change no run; a run's steps are linear in its two counts
 --   DigitsFacts               facts on digit systems that these use
 pub mod DigitsFacts

@@ -1,5 +1,4 @@
 -- `digits::judged` meets its contract: "3: a system has 0 or more than 16 digits", and the rows after that.
-use borrow.Author.Needs.{needs}
 use borrow.Author.Tests.{le-leb, lt-leb}
 use Prim.Native.Nat.{_≤_}
 use native.Mathlib.Omega.{arith}

@@ -1,28 +1,16 @@
 -- `plugin::sled_system_b` meets its contract: of the 16 rows of B in memory, the first 8 are handed out.
 use borrow.Author.Needs.{needs}
-use mathlib.Core.Path.{refl, sym, ap, subst, _∙_}
-use Prim.Native.Nat.{_*_, _≤_}
-use lib.ListN.{length, take}
+use mathlib.Core.Path.{refl, _∙_}
 use denote.Ref.{now}
 use borrow.Author.Tests.{leb-true}
-use Rattle.digits.specs.declared.System.{System}
-use Rattle.digits.specs.BuiltIn.{systemOf}
-use Rattle.plugin.specs.Calls.{handedOut}
+use Rattle.digits.specs.BuiltIn.{rowsB}
+use Rattle.plugin.proofs.Laws.{rows-there, handed-rows}
 use Rattle.plugin.proofs.sled_system_b.Statement.{statement}
 use Rattle.plugin.proofs.sled_system_b.Tie as tie
 
-hand-out-requires : tie.Need-hand-out-requires
-unfolding systemOf
-hand-out-requires c κs =
-    subst (λ (s : System). (s .count ≤ 16) × (8 * s .count ≤ length (s .rows))) (sym (c .before .system-b .ensures)) (leb-true _ _ refl, leb-true _ _ refl)
-
-returns : tie.Need-returns
-unfolding systemOf
-returns c =
-    let h = c .before in
-    let s = h .before .before in
-    let old = now (s .before .args .rows) in
-    h .hand-out .ensures ∙ ap (λ (t : System). handedOut (take (8 * t .count) (t .rows)) old) (s .system-b .ensures)
-
 pub sled-system-b-spec : {M : Type 1} → statement M
-sled-system-b-spec = tie.close (tie.spec (λ c κs. search needs) hand-out-requires (λ c. search needs) returns)
+sled-system-b-spec = tie.close (tie.spec
+    (λ c κs. search needs)
+    (λ c κs. rows-there rowsB (c .before .system-b .ensures) (leb-true _ _ refl) (leb-true _ _ refl))
+    (λ c. search needs)
+    (λ c. let s = c .before .before .before in c .before .hand-out .ensures ∙ handed-rows rowsB (s .system-b .ensures) refl (now (s .before .args .rows))))
