@@ -13,17 +13,11 @@ use lib.IntN.{ℤ, pos, _*ℤ_}
 use lib.Signed.{_<ℤ_}
 use Rattle.whole.specs.Range.{at}
 use Rattle.whole.specs.Divisor.{gcd4}
-use Rattle.whole.proofs.Polynomial.{_⊖_, _⊗_}
-use Rattle.whole.proofs.Law.{#, _≗_, law}
-use Rattle.whole.proofs.Certificate.{_≺_, _≈_, never, h, _⊡_}
-use Rattle.whole.proofs.Search.{linear, _&_}
-use Rattle.whole.proofs.Claim.{_⇒_, _from_, claim}
-use Rattle.whole.proofs.Cases.{cancel-pos, up<}
-use Rattle.whole.proofs.Divisor.{Times, Times4, gcd4-divides, gcd4-zero, divided-times, reduced, reduced-only}
+use Rattle.whole.proofs.Laws.{_⊖_, _⊗_, #, _≺_, _≈_, never, h, _⊡_, linear, _&_, _⇒_, _from_, claim, cancel-pos, up<, Times, Times4, gcd4-divides, gcd4-zero, divided-times, reduced, reduced-only}
 use Rattle.plane.specs.Plane.{Pair, SamePoint, apply, determinantOf, imageOf, cancelOf}
-use Rattle.plane.specs.Scale.{entries, scaleOf, Keeps, SameSign, SameSigns, SameEnds}
+use Rattle.plane.specs.Scale.{entries, scaleOf, DetAbove, SameSign, SameSigns, SameEnds}
 use Rattle.plane.proofs.SameSign.{grown, sign-back, square-above, above-not-0}
-use Rattle.plane.proofs.Identities.{four, four-equal, determinant-scale, scale-one}
+use Rattle.plane.proofs.Identities.{four, four-equal, determinant-scale}
 use Rattle.plane.proofs.Points.{same-scaled}
 use Rattle.plane.proofs.Ends.{ends-scaled}
 
@@ -73,13 +67,6 @@ signs-back s = record { s0 = sign-back (s .s0); s1 = sign-back (s .s1); s2 = sig
 pub determinant-sign : {k : ℕ} {n m : List ℤ} → 0 < k → Times4 k n m → SameSign (determinantOf n) (determinantOf m)
 determinant-sign {k} p t = grown (pos (k * k)) (square-above (pos k) (not-0 p)) (sym (determinant-times t))
 
--- k·(j·l) = (k·j)·l
-pub times-times : {j k : ℕ} {l n m : List ℤ} → Times4 j l n → Times4 k n m → Times4 (k * j) l m
-times-times {j} {k} s t = record { t0 = onto (s .t0) (t .t0); t1 = onto (s .t1) (t .t1); t2 = onto (s .t2) (t .t2); t3 = onto (s .t3) (t .t3) }
-  where
-    onto : {x y z : ℤ} → Times j x y → Times k y z → Times (k * j) x z
-    onto {x} a b = record { times = law 3 (λ k j x. k ⊗ j ⊗ x ≗ k ⊗ (j ⊗ x)) tt (pos k) (pos j) x ∙ ap (λ (w : ℤ). pos k *ℤ w) (a .times) ∙ b .times }
-
 -- k·n determines n, if k is above 0
 pub times-only : {k : ℕ} {n l m : List ℤ} → 0 < k → Times4 k n m → Times4 k l m → entries n ≡ entries l
 times-only {k} p s t = four-equal (only (s .t0) (t .t0)) (only (s .t1) (t .t1)) (only (s .t2) (t .t2)) (only (s .t3) (t .t3))
@@ -89,7 +76,7 @@ times-only {k} p s t = four-equal (only (s .t0) (t .t0)) (only (s .t1) (t .t1)) 
 
 -- ---- a matrix and its cancelled form
 
-pub divisor-above : {m : List ℤ} → Keeps m → 0 < gcd4 m
+pub divisor-above : {m : List ℤ} → DetAbove m → 0 < gcd4 m
 unfolding determinantOf
 divisor-above {m} k = above (gcd4 m) refl
   where
@@ -112,8 +99,8 @@ pub cancel-lowest : (m : List ℤ) → 0 < gcd4 m → gcd4 (cancelOf m) ≡ 1
 unfolding cancelOf
 cancel-lowest m = reduced m
 
-pub cancel-keeps : {m : List ℤ} → Keeps m → Keeps (cancelOf m)
-cancel-keeps {m} k = record { above = sign-back (determinant-sign (divisor-above k) (cancel-times m)) .above (k .above) }
+pub cancel-det-above : {m : List ℤ} → DetAbove m → DetAbove (cancelOf m)
+cancel-det-above {m} k = record { above = sign-back (determinant-sign (divisor-above k) (cancel-times m)) .above (k .above) }
 
 -- there is no other: whatever is in lowest terms and makes m by a number above 0 is m cancelled
 pub cancel-only : {k : ℕ} {n m : List ℤ} → 0 < k → Times4 k n m → gcd4 n ≡ 1 → entries n ≡ cancelOf m
@@ -122,13 +109,6 @@ cancel-only {m = m} p t e = times-only p t (subst (λ (j : ℕ). Times4 j (cance
 
 pub cancel-only-four : {k : ℕ} {n m : List ℤ} → length n ≡ 4 → 0 < k → Times4 k n m → gcd4 n ≡ 1 → n ≡ cancelOf m
 cancel-only-four {n = n} f p t e = four n f ∙ cancel-only p t e
-
--- so a matrix in lowest terms stays, and matrices that differ by a factor above 0 have one cancelled form
-pub cancel-stays : (m : List ℤ) → gcd4 m ≡ 1 → cancelOf m ≡ entries m
-cancel-stays m e = sym (cancel-only (omega arith) (entries-times 1 m m (scale-one m)) e)
-
-pub cancel-alike : {k : ℕ} {n m : List ℤ} → 0 < k → 0 < gcd4 n → Times4 k n m → cancelOf n ≡ cancelOf m
-cancel-alike {k} {n} {m} p q t = cancel-only-four (length-cancel n) (N.mul-pos p q) (times-times (cancel-times n) t) (cancel-lowest n q)
 
 -- ---- all of it
 
@@ -139,7 +119,7 @@ pub record CancelSays (m : List ℤ) : Type 0 where
   pub times : Times4 (gcd4 m) (cancelOf m) m
   pub scaled : scaleOf (pos (gcd4 m)) (cancelOf m) ≡ entries m
   pub determinant : determinantOf m ≡ pos (gcd4 m * gcd4 m) *ℤ determinantOf (cancelOf m)
-  pub keeps : Keeps (cancelOf m)
+  pub keeps : DetAbove (cancelOf m)
   pub signs : SameSigns m (cancelOf m)
   pub same : (z : Pair) → SamePoint (apply (cancelOf m) z) (apply m z)
   pub ends : (w : List ℤ) → SameEnds (imageOf (cancelOf m) w) (imageOf m w)
@@ -147,7 +127,7 @@ pub record CancelSays (m : List ℤ) : Type 0 where
 
 pub cancel-says : (m : List ℤ) → pos 0 <ℤ determinantOf m → CancelSays m
 cancel-says m d =
-    let k : Keeps m = record { above = d } in
+    let k : DetAbove m = record { above = d } in
     let p = divisor-above k in
     let t = cancel-times m in
     record {
@@ -157,7 +137,7 @@ cancel-says m d =
       times = t;
       scaled = times-entries t;
       determinant = determinant-times t;
-      keeps = cancel-keeps k;
+      keeps = cancel-det-above k;
       signs = signs-back (signs-times p t);
       same = same-times p t;
       ends = ends-times p t;

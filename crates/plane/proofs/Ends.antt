@@ -1,38 +1,17 @@
 -- An interval may be written with other multiples of its ends: if each end is multiplied, by two numbers whose product is above 0, then the same points are inside, the
 -- same are in the closed interval, and it still is an interval. So one end may be multiplied by a number above 0, and both may change their sign.
 -- The argument: a factor k of the left end and l of the right end comes out of the product that decides as k·l, which does not change its sign.
-use mathlib.Core.Path.{_≡_, refl, sym, _∙_, ap}
+use mathlib.Core.Path.{_≡_, sym, _∙_}
 use mathlib.Core.List.{List}
 use lib.IntN.{ℤ, pos, _*ℤ_}
-use lib.Signed.{_<ℤ_}
-use Rattle.whole.proofs.Polynomial.{_⊗_}
-use Rattle.whole.proofs.Law.{_≗_, law}
-use Rattle.plane.specs.Plane.{Pair, det, left, right, apply, imageOf, Interval, Inside, Closed}
-use Rattle.plane.specs.Scale.{scalePair, scaleOf, stretchOf, SameSign, SameEnds}
+use Rattle.whole.proofs.Laws.{_⊗_, _≗_, law}
+use Rattle.plane.specs.Plane.{Pair, det, left, right, imageOf, Interval, Inside, Closed}
+use Rattle.plane.specs.Scale.{scalePair, scaleOf, SameSign, SameEnds}
 use Rattle.plane.proofs.SameSign.{grown, sign-back, square-above}
-use Rattle.plane.proofs.Identities.{Det, det-scale, apply-scale, apply-scalePair}
+use Rattle.plane.proofs.Identities.{Det, det-scale, apply-scale}
 use Rattle.plane.proofs.Moves.{between, inside-sign, closed-sign}
 
 -- ---- which intervals have the same ends
-
-pub ends-stretch : (k l : ℤ) (w : List ℤ) → pos 0 <ℤ (k *ℤ l) → SameEnds w (stretchOf k l w)
-unfolding stretchOf scalePair
-ends-stretch k l w h = record { k = k; l = l; together = h; lefts = refl; rights = refl }
-
-pub ends-scale : (k : ℤ) (w : List ℤ) → (k ≡ pos 0 → ⊥) → SameEnds w (scaleOf k w)
-unfolding scaleOf scalePair
-ends-scale k w f = record { k = k; l = k; together = square-above k f; lefts = refl; rights = refl }
-
--- the images of both under one matrix
-pub ends-moved : (m : List ℤ) {w v : List ℤ} → SameEnds w v → SameEnds (imageOf m w) (imageOf m v)
-unfolding imageOf
-ends-moved m {w} {v} s = record {
-  k = s .k;
-  l = s .l;
-  together = s .together;
-  lefts = ap (apply m) (s .lefts) ∙ apply-scalePair (s .k) m (left w);
-  rights = ap (apply m) (s .rights) ∙ apply-scalePair (s .l) m (right w);
-}
 
 -- the images of one under a matrix and under a multiple of it
 pub ends-scaled : (k : ℤ) (m w : List ℤ) → (k ≡ pos 0 → ⊥) → SameEnds (imageOf m w) (imageOf (scaleOf k m) w)

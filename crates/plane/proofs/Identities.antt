@@ -7,9 +7,8 @@ use native.Mathlib.Omega.{arith}
 use lib.ListN.{length}
 use lib.IntN.{ℤ, pos, negℤ, _+ℤ_, _*ℤ_}
 use Rattle.whole.specs.Range.{at}
-use Rattle.whole.proofs.Polynomial.{E, _⊕_, _⊖_, _⊗_, ⊝_}
-use Rattle.whole.proofs.Law.{#, _≗_, law}
-use Rattle.plane.specs.Plane.{Pair, det, left, right, apply, determinantOf, pseudoinverseOf, multiplyOf, imageOf}
+use Rattle.whole.proofs.Laws.{E, _⊕_, _⊖_, _⊗_, ⊝_, #, _≗_, law}
+use Rattle.plane.specs.Plane.{Pair, det, apply, determinantOf, pseudoinverseOf, multiplyOf}
 use Rattle.plane.specs.Scale.{entries, scalePair, scaleOf, identityOf}
 
 -- ---- pairs and matrices are equal by their entries
@@ -59,11 +58,6 @@ det-scale k l x y = law 6 (λ k l a b c d. Det (k ⊗ a) (k ⊗ b) (l ⊗ c) (l 
 
 -- ---- determinants of matrices
 
--- of an interval, written as its two ends, it is the ends' determinant
-pub determinant-ends : (w : List ℤ) → determinantOf w ≡ det (left w) (right w)
-unfolding determinantOf
-determinant-ends w = refl
-
 pub det-apply : (m : List ℤ) (p q : Pair) → det (apply m p) (apply m q) ≡ determinantOf m *ℤ det p q
 unfolding apply determinantOf
 det-apply m p q =
@@ -102,26 +96,6 @@ unfolding multiplyOf
 multiply-assoc m n k = four-equal
     (entry (at m 0) (at m 1) n (at k 0) (at k 2)) (entry (at m 0) (at m 1) n (at k 1) (at k 3))
     (entry (at m 2) (at m 3) n (at k 0) (at k 2)) (entry (at m 2) (at m 3) n (at k 1) (at k 3))
-
--- the image of an interval has the images of its ends for ends
-pub left-image : (m w : List ℤ) → left (imageOf m w) ≡ apply m (left w)
-unfolding imageOf
-left-image m w = refl
-
-pub right-image : (m w : List ℤ) → right (imageOf m w) ≡ apply m (right w)
-unfolding imageOf
-right-image m w = refl
-
-pub determinant-image : (m w : List ℤ) → determinantOf (imageOf m w) ≡ determinantOf m *ℤ determinantOf w
-unfolding determinantOf imageOf
-determinant-image m w = det-apply m (left w) (right w)
-
-pub image-multiply : (m n w : List ℤ) → imageOf (multiplyOf m n) w ≡ imageOf m (imageOf n w)
-unfolding imageOf
-image-multiply m n w =
-    let l = apply-multiply m n (left w) in
-    let r = apply-multiply m n (right w) in
-    four-equal (λ i. l i .z0) (λ i. l i .z1) (λ i. r i .z0) (λ i. r i .z1)
 
 -- ---- multiples: a factor k of the row or of the column comes out
 
@@ -233,26 +207,5 @@ pseudoinverse-apply m = undoes-pair (pseudoinverseOf m) m (determinantOf m) (pse
 pub apply-pseudoinverse : (m : List ℤ) (z : Pair) → apply m (apply (pseudoinverseOf m) z) ≡ scalePair (determinantOf m) z
 apply-pseudoinverse m = undoes-pair m (pseudoinverseOf m) (determinantOf m) (pseudoinverse-right m)
 
-pub pseudoinverse-multiply : (m n : List ℤ) → multiplyOf (pseudoinverseOf m) (multiplyOf m n) ≡ scaleOf (determinantOf m) n
-pseudoinverse-multiply m = undoes (pseudoinverseOf m) m (determinantOf m) (pseudoinverse-left m)
-
 pub multiply-pseudoinverse : (m n : List ℤ) → multiplyOf m (multiplyOf (pseudoinverseOf m) n) ≡ scaleOf (determinantOf m) n
 multiply-pseudoinverse m = undoes m (pseudoinverseOf m) (determinantOf m) (pseudoinverse-right m)
-
--- ---- every matrix that is made has four entries
-
-pub length-multiply : (m n : List ℤ) → length (multiplyOf m n) ≡ 4
-unfolding multiplyOf
-length-multiply m n = refl
-
-pub length-pseudoinverse : (m : List ℤ) → length (pseudoinverseOf m) ≡ 4
-unfolding pseudoinverseOf
-length-pseudoinverse m = refl
-
-pub length-image : (m w : List ℤ) → length (imageOf m w) ≡ 4
-unfolding imageOf
-length-image m w = refl
-
-pub length-scale : (k : ℤ) (m : List ℤ) → length (scaleOf k m) ≡ 4
-unfolding scaleOf
-length-scale k m = refl

@@ -7,24 +7,19 @@ use mathlib.Core.List.{List}
 use lib.IntN.{ℤ, pos, _+ℤ_, _*ℤ_}
 use lib.Signed.{_<ℤ_}
 use Rattle.whole.specs.Range.{at}
-use Rattle.whole.proofs.Polynomial.{_⊕_, _⊗_}
-use Rattle.whole.proofs.Law.{#, _≗_, law}
-use Rattle.whole.proofs.Order.{ps-mul}
-use Rattle.whole.proofs.Certificate.{_≈_, h, _⊡_}
-use Rattle.whole.proofs.Search.{linear, _&_}
-use Rattle.whole.proofs.Claim.{_⇒_, _from_, claim}
+use Rattle.whole.proofs.Laws.{_⊕_, _⊗_, #, _≗_, law, ps-mul, _≈_, h, _⊡_, linear, _&_, _⇒_, _from_, claim}
 use Rattle.plane.specs.Plane.{Pair, Point, det, left, right, apply, determinantOf, pseudoinverseOf, multiplyOf, imageOf, Interval, Inside, Closed}
-use Rattle.plane.specs.Scale.{scalePair, Keeps, SameSign}
+use Rattle.plane.specs.Scale.{scalePair, DetAbove, SameSign}
 use Rattle.plane.proofs.SameSign.{grown, sign-back, sign-not-below, above-not-0, cancel-not-0}
 use Rattle.plane.proofs.Identities.{det-apply, determinant-multiply, determinant-pseudoinverse, pseudoinverse-apply}
 
 -- ---- the matrices that keep
 
-pub keeps-multiply : {m n : List ℤ} → Keeps m → Keeps n → Keeps (multiplyOf m n)
-keeps-multiply {m} {n} p q = record { above = subst (λ (d : ℤ). pos 0 <ℤ d) (sym (determinant-multiply m n)) (ps-mul (p .above) (q .above)) }
+pub det-above-multiply : {m n : List ℤ} → DetAbove m → DetAbove n → DetAbove (multiplyOf m n)
+det-above-multiply {m} {n} p q = record { above = subst (λ (d : ℤ). pos 0 <ℤ d) (sym (determinant-multiply m n)) (ps-mul (p .above) (q .above)) }
 
-pub keeps-pseudoinverse : {m : List ℤ} → Keeps m → Keeps (pseudoinverseOf m)
-keeps-pseudoinverse {m} p = record { above = subst (λ (d : ℤ). pos 0 <ℤ d) (sym (determinant-pseudoinverse m)) (p .above) }
+pub det-above-pseudoinverse : {m : List ℤ} → DetAbove m → DetAbove (pseudoinverseOf m)
+det-above-pseudoinverse {m} p = record { above = subst (λ (d : ℤ). pos 0 <ℤ d) (sym (determinant-pseudoinverse m)) (p .above) }
 
 -- ---- intervals, inside and closed
 
@@ -38,7 +33,7 @@ inside-sign s i = record { above = s .above (i .above) }
 pub closed-sign : {w v : List ℤ} {z y : Pair} → SameSign (between w z) (between v y) → Closed w z → Closed v y
 closed-sign s i = record { not-below = sign-not-below s (i .not-below) }
 
-pub between-moves : {m : List ℤ} → Keeps m → (w : List ℤ) (z : Pair) → SameSign (between w z) (between (imageOf m w) (apply m z))
+pub between-moves : {m : List ℤ} → DetAbove m → (w : List ℤ) (z : Pair) → SameSign (between w z) (between (imageOf m w) (apply m z))
 unfolding imageOf
 between-moves {m} k w z =
     let d = determinantOf m in
@@ -46,26 +41,26 @@ between-moves {m} k w z =
     (law 3 (λ d a b. d ⊗ d ⊗ (a ⊗ b) ≗ d ⊗ a ⊗ (d ⊗ b)) tt d (det (left w) z) (det z (right w)) ∙
     sym (λ i. det-apply m (left w) z i *ℤ det-apply m z (right w) i))
 
-pub inside-moves : {m w : List ℤ} {z : Pair} → Keeps m → Inside w z → Inside (imageOf m w) (apply m z)
+pub inside-moves : {m w : List ℤ} {z : Pair} → DetAbove m → Inside w z → Inside (imageOf m w) (apply m z)
 inside-moves {w = w} {z = z} k = inside-sign (between-moves k w z)
 
-pub inside-back : {m w : List ℤ} {z : Pair} → Keeps m → Inside (imageOf m w) (apply m z) → Inside w z
+pub inside-back : {m w : List ℤ} {z : Pair} → DetAbove m → Inside (imageOf m w) (apply m z) → Inside w z
 inside-back {w = w} {z = z} k = inside-sign (sign-back (between-moves k w z))
 
-pub closed-moves : {m w : List ℤ} {z : Pair} → Keeps m → Closed w z → Closed (imageOf m w) (apply m z)
+pub closed-moves : {m w : List ℤ} {z : Pair} → DetAbove m → Closed w z → Closed (imageOf m w) (apply m z)
 closed-moves {w = w} {z = z} k = closed-sign (between-moves k w z)
 
-pub closed-back : {m w : List ℤ} {z : Pair} → Keeps m → Closed (imageOf m w) (apply m z) → Closed w z
+pub closed-back : {m w : List ℤ} {z : Pair} → DetAbove m → Closed (imageOf m w) (apply m z) → Closed w z
 closed-back {w = w} {z = z} k = closed-sign (sign-back (between-moves k w z))
 
-ends-move : {m : List ℤ} → Keeps m → (w : List ℤ) → SameSign (det (left w) (right w)) (det (left (imageOf m w)) (right (imageOf m w)))
+ends-move : {m : List ℤ} → DetAbove m → (w : List ℤ) → SameSign (det (left w) (right w)) (det (left (imageOf m w)) (right (imageOf m w)))
 unfolding imageOf
 ends-move {m} k w = grown (determinantOf m) (k .above) (sym (det-apply m (left w) (right w)))
 
-pub interval-moves : {m w : List ℤ} → Keeps m → Interval w → Interval (imageOf m w)
+pub interval-moves : {m w : List ℤ} → DetAbove m → Interval w → Interval (imageOf m w)
 interval-moves {w = w} k i = record { below = ends-move k w .below (i .below) }
 
-pub interval-back : {m w : List ℤ} → Keeps m → Interval (imageOf m w) → Interval w
+pub interval-back : {m w : List ℤ} → DetAbove m → Interval (imageOf m w) → Interval w
 interval-back {w = w} k i = record { below = sign-back (ends-move k w) .below (i .below) }
 
 -- ---- points
@@ -82,6 +77,6 @@ pub point-scale : (k : ℤ) {z : Pair} → (k ≡ pos 0 → ⊥) → Point z →
 unfolding scalePair
 point-scale k f p = record { not-both = λ e g. p .not-both (cancel-not-0 f e) (cancel-not-0 f g) }
 
-pub point-moves : {m : List ℤ} {z : Pair} → Keeps m → Point z → Point (apply m z)
+pub point-moves : {m : List ℤ} {z : Pair} → DetAbove m → Point z → Point (apply m z)
 point-moves {m} {z} k p =
     point-back (pseudoinverseOf m) (subst Point (sym (pseudoinverse-apply m z)) (point-scale (determinantOf m) (above-not-0 (k .above)) p))

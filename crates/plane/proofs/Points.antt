@@ -8,15 +8,9 @@ use mathlib.Core.List.{List}
 use native.Mathlib.Omega.{arith}
 use lib.IntN.{ℤ, pos, _+ℤ_, _*ℤ_}
 use Rattle.whole.specs.Range.{at}
-use Rattle.whole.proofs.Polynomial.{_⊕_, _⊗_}
-use Rattle.whole.proofs.Law.{#, _≗_, law}
-use Rattle.whole.proofs.Order.{nn-sq}
-use Rattle.whole.proofs.Certificate.{_≦_, _≈_, h, _⊡_}
-use Rattle.whole.proofs.Search.{linear, _&_}
-use Rattle.whole.proofs.Claim.{_⇒_, _from_, claim}
-use Rattle.whole.proofs.Cases.{zero-product, up<}
+use Rattle.whole.proofs.Laws.{_⊕_, _⊗_, #, _≗_, law, nn-sq, _≦_, _≈_, h, _⊡_, linear, _&_, _⇒_, _from_, claim, zero-product, up<}
 use Rattle.plane.specs.Plane.{Pair, Point, SamePoint, det, apply, determinantOf, pseudoinverseOf, Inside, Closed}
-use Rattle.plane.specs.Scale.{scalePair, scaleOf, Keeps, SameSign}
+use Rattle.plane.specs.Scale.{scalePair, scaleOf, DetAbove, SameSign}
 use Rattle.plane.proofs.SameSign.{same-sign, above-not-0, product-not-0, cancel-not-0, square-above}
 use Rattle.plane.proofs.Identities.{Det, apply-scale, apply-scalePair, scale-scalePair, pseudoinverse-apply, apply-pseudoinverse}
 use Rattle.plane.proofs.Moves.{between, inside-sign, closed-sign, point-scale}
@@ -112,13 +106,13 @@ same-moves m {x} {y} s = same-point (s .k) (s .l) (s .k-not-0) (s .l-not-0)
     (sym (apply-scalePair (s .k) m x) ∙ ap (apply m) (same-pair s) ∙ apply-scalePair (s .l) m y)
 
 -- the pseudoinverse leads back, to a multiple, and from there forth
-pub same-undone : {m : List ℤ} → Keeps m → (z : Pair) → SamePoint z (apply (pseudoinverseOf m) (apply m z))
+pub same-undone : {m : List ℤ} → DetAbove m → (z : Pair) → SamePoint z (apply (pseudoinverseOf m) (apply m z))
 same-undone {m} k z = same-multiple (determinantOf m) (above-not-0 (k .above)) (pseudoinverse-apply m z)
 
-pub same-redone : {m : List ℤ} → Keeps m → (z : Pair) → SamePoint z (apply m (apply (pseudoinverseOf m) z))
+pub same-redone : {m : List ℤ} → DetAbove m → (z : Pair) → SamePoint z (apply m (apply (pseudoinverseOf m) z))
 same-redone {m} k z = same-multiple (determinantOf m) (above-not-0 (k .above)) (apply-pseudoinverse m z)
 
-pub same-back : {m : List ℤ} {x y : Pair} → Keeps m → SamePoint (apply m x) (apply m y) → SamePoint x y
+pub same-back : {m : List ℤ} {x y : Pair} → DetAbove m → SamePoint (apply m x) (apply m y) → SamePoint x y
 same-back {m} {x} {y} k s = same-trans (same-undone k x) (same-trans (same-moves (pseudoinverseOf m) s) (same-sym (same-undone k y)))
 
 -- a multiple of a matrix sends a point to the same point

@@ -5,13 +5,7 @@ use mathlib.Core.Path.{_≡_, _∙_}
 use mathlib.Core.Logic.{inl, inr}
 use lib.IntN.{ℤ, pos, _*ℤ_}
 use lib.Signed.{_≤ℤ_, _<ℤ_, clashℤ}
-use Rattle.whole.proofs.Polynomial.{_⊗_}
-use Rattle.whole.proofs.Law.{#, _≗_, law}
-use Rattle.whole.proofs.Order.{≤-by}
-use Rattle.whole.proofs.Certificate.{_≺_, _≈_, never}
-use Rattle.whole.proofs.Search.{linear, quadratic}
-use Rattle.whole.proofs.Claim.{_⇒_, _from_, claim}
-use Rattle.whole.proofs.Cases.{less, same, more, tri, zero-product}
+use Rattle.whole.proofs.Laws.{_⊗_, #, _≗_, law, ≤-by, _≺_, _≈_, never, linear, quadratic, _⇒_, _from_, claim, less, same, more, tri, zero-product}
 use Rattle.plane.specs.Scale.{SameSign}
 
 pub same-sign : (k l : ℤ) {p q : ℤ} → pos 0 <ℤ k → pos 0 <ℤ l → k *ℤ p ≡ l *ℤ q → SameSign p q

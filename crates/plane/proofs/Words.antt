@@ -1,15 +1,17 @@
--- What the function proofs say of 64-bit words: a word holds the number that was stored in it, if that fits; and four words are compared entry by entry.
+-- What the function proofs say of 64-bit words: a word holds the number that was stored in it, if that fits.
 use mathlib.Core.Path.{_≡_, sym, ap, _∙_}
 use mathlib.Core.Bool.{Bool, true, false, not}
-use mathlib.Core.List.{List, [], _∷_}
-use Prim.Native.Nat.{ℕ, _^_, _<_}
-use lib.IntN.{ℤ, pos}
+use mathlib.Core.List.{[], _∷_}
+use Prim.Native.Nat.{ℕ, _+_, _*_, _^_, _<_}
+use lib.Dec.{T, ltb}
+use lib.IntN.{ℤ, pos, natAbs, _-ℤ_, _*ℤ_}
 use lib.Signed.{mag, leZ, ltZ}
 use mir.Syntax.{w64}
 use mir.Val.{ofZ, toZ}
 use Rattle.whole.specs.Range.{Near}
-use Rattle.whole.proofs.Machine.{ok-back, Stands}
-use Rattle.whole.proofs.Test.{le-true, le-false, true-lt, false-lt}
+use Rattle.whole.proofs.Laws.{back, near-back, ok-back, back-of, Stands, le-true, le-false, true-lt, false-lt}
+use Rattle.plane.specs.Fits.{Products}
+use Rattle.plane.specs.Plane.{determinantOf}
 
 -- what is read back where z was stored
 abbrev pub held : ℤ → ℤ
@@ -22,8 +24,19 @@ Fits z = mag z < 2 ^ 63
 pub read : {b : ℕ} {z : ℤ} → Fits z → Near b z → Stands b (held z) z
 read fits h = record { is = ok-back fits; near = h }
 
-pub entries : {a b c d a′ b′ c′ d′ : ℤ} → a ≡ a′ → b ≡ b′ → c ≡ c′ → d ≡ d′ → _≡_ {A = List ℤ} (a ∷ b ∷ c ∷ d ∷ []) (a′ ∷ b′ ∷ c′ ∷ d′ ∷ [])
-entries p q r s = λ i. p i ∷ q i ∷ r i ∷ s i ∷ []
+-- what `magnitude` ensures of the word that holds z
+pub size : (z : ℤ) {n : ℕ} → Fits z → n ≡ natAbs (held z) → n ≡ natAbs z
+size z fits e = e ∙ ap natAbs (back-of z fits)
+
+-- ---- a determinant of two pairs that words hold: what `determinant` asks, and what its answer is then
+
+module _ {a b : ℕ} {x0 x1 y0 y1 : ℤ} (s : T (ltb a (2 ^ 63))) (t : T (ltb b (2 ^ 63))) (h0 : Near a x0) (h1 : Near a x1) (k0 : Near b y0) (k1 : Near b y1) where
+  pub determinant-asks : T (ltb (a * b + a * b) (2 ^ 63)) → Products (held x0 ∷ held x1 ∷ held y0 ∷ held y1 ∷ [])
+  determinant-asks small = record { a = a; b = b; n0 = near-back h0 s; n1 = near-back h1 s; n2 = near-back k0 t; n3 = near-back k1 t; small = small }
+
+  pub determinant-held : {r : ℤ} → Fits r → r ≡ determinantOf (held x0 ∷ held x1 ∷ held y0 ∷ held y1 ∷ []) → held r ≡ x0 *ℤ y1 -ℤ x1 *ℤ y0
+  unfolding determinantOf
+  determinant-held fits e = ok-back fits ∙ e ∙ (λ i. back h0 s i *ℤ back k1 t i -ℤ back h1 s i *ℤ back k0 t i)
 
 -- ---- what a test of a determinant's sign says, where the word r holds the number d
 

@@ -18,16 +18,12 @@ scalePair k z = record { z0 = k *ℤ z .z0; z1 = k *ℤ z .z1 }
 unfoldable pub scaleOf : ℤ → List ℤ → List ℤ
 scaleOf k m = (k *ℤ at m 0) ∷ (k *ℤ at m 1) ∷ (k *ℤ at m 2) ∷ (k *ℤ at m 3) ∷ []
 
--- k times the left end of w, and l times its right end
-unfoldable pub stretchOf : ℤ → ℤ → List ℤ → List ℤ
-stretchOf k l w = (k *ℤ at w 0) ∷ (k *ℤ at w 1) ∷ (l *ℤ at w 2) ∷ (l *ℤ at w 3) ∷ []
-
 -- the matrix that leaves every pair as it is
 abbrev pub identityOf : List ℤ
 identityOf = pos 1 ∷ pos 0 ∷ pos 0 ∷ pos 1 ∷ []
 
 -- a matrix of determinant above 0: it keeps intervals, and what is inside them
-pub record Keeps (m : List ℤ) : Type 0 where
+pub record DetAbove (m : List ℤ) : Type 0 where
   pub above : pos 0 <ℤ determinantOf m
 
 -- q lies where p lies, above, below or at 0

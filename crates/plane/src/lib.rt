@@ -1,15 +1,16 @@
 // Points, matrices and intervals: document 01's section of that name, on machine words.
 // A state's entries lie within ±1,000,000,000 and a digit's numbers within ±100, so the entries of their products and the ends of an image lie within ±200,000,000,000,
-// and no determinant that is formed here leaves 64 bits. No product of two determinants is formed: their signs are compared.
+// and no determinant that is formed here leaves 64 bits.
 ghost use mathlib.Core.Path.{_≡_};
 ghost use Prim.Native.Nat.{_<_};
-ghost use lib.IntN.{pos, _+ℤ_, _*ℤ_};
-ghost use lib.Signed.{leZ};
+ghost use mathlib.Core.Bool.{_&&_};
+ghost use lib.Dec.{leb};
+ghost use lib.IntN.{natAbs, _+ℤ_, _*ℤ_};
 ghost use Rattle.whole.specs.Range.{Near, Within};
-ghost use Rattle.whole.specs.Divisor.{gcd4};
+ghost use Rattle.whole.specs.Divisor.{gcd, gcd4, divided, Divides4};
 ghost use Rattle.plane.specs.Fits.{Products};
 ghost use Rattle.plane.specs.Plane.{determinantOf, pseudoinverseOf, multiplyOf, imageOf, cancelOf};
-ghost use Rattle.plane.specs.Inclusion.{included?, sidesOf};
+ghost use Rattle.plane.specs.Tests.{within?};
 
 // "Its determinant is ad − bc." Of the two ends of an interval, written x0 x1 y0 y1, it is det(x, y).
 pub fn determinant(m: [i64; 4]) -> i64
@@ -65,19 +66,35 @@ pub fn image(m: [i64; 4], w: [i64; 4]) -> [i64; 4]
     [p[0], p[2], p[1], p[3]]
 }
 
-// The greatest common divisor of the four entries, by Euclid. Of any four numbers at all. Most often the first two settle it.
+// The greatest common divisor of two numbers, signs apart, by Euclid.
+pub fn divisor_of_two(x: i64, y: i64) -> u64
+    ensures { λ r. ⌜ r ≡ gcd (natAbs x) (natAbs y) ⌝ }
+{
+    whole::gcd(whole::magnitude(x), whole::magnitude(y))
+}
+
+// The greatest common divisor of the four entries. Of any four numbers at all. Most often the first two settle it.
 pub fn divisor(m: [i64; 4]) -> u64
     ensures { λ r. ⌜ r ≡ gcd4 m ⌝ }
 {
-    let a = whole::magnitude(m[0]);
-    let b = whole::magnitude(m[1]);
-    let c = whole::magnitude(m[2]);
-    let d = whole::magnitude(m[3]);
-    let f = whole::gcd(a, b);
+    let f = divisor_of_two(m[0], m[1]);
     if f == 1 {
         return 1;
     }
-    whole::gcd(f, whole::gcd(c, d))
+    whole::gcd(f, divisor_of_two(m[2], m[3]))
+}
+
+// The four numbers divided by a divisor of them. Signs stay.
+fn quotients(m: [i64; 4], g: u64) -> [i64; 4]
+    requires { ⌜ (Divides4 g m) × (0 < g) × (g < 9223372036854775808) ⌝ }
+    ensures { λ r. ⌜ r ≡ divided m g ⌝ }
+{
+    [
+        whole::quotient(m[0], g),
+        whole::quotient(m[1], g),
+        whole::quotient(m[2], g),
+        whole::quotient(m[3], g),
+    ]
 }
 
 // "To cancel a matrix, divide it by the greatest common divisor of the four entries. Signs stay." Most products have none but 1, and are not divided.
@@ -87,66 +104,27 @@ pub fn cancel(m: [i64; 4]) -> [i64; 4]
 {
     let g = divisor(m);
     if g == 1 {
-        return [m[0], m[1], m[2], m[3]];
+        return m;
     }
-    [
-        whole::quotient(m[0], g),
-        whole::quotient(m[1], g),
-        whole::quotient(m[2], g),
-        whole::quotient(m[3], g),
-    ]
+    quotients(m, g)
 }
 
-// The two determinants of an end x of I with the ends of J = (u, v): det(x, u), det(x, v).
-fn sides(x0: i64, x1: i64, j: [i64; 4]) -> [i64; 2]
-    requires { ⌜ (Near 200000000000 x0) × (Near 200000000000 x1) × (Within 100 j) ⌝ }
-    ensures { λ r. ⌜ r ≡ sidesOf x0 x1 j ⌝ }
+// Whether two numbers lie in −b..b.
+fn both_near(x: i64, y: i64, b: u64) -> bool
+    ensures { λ r. ⌜ r ≡ (leb (natAbs x) b && leb (natAbs y) b) ⌝ }
 {
-    [
-        determinant([x0, x1, j[0], j[1]]),
-        determinant([x0, x1, j[2], j[3]]),
-    ]
-}
-
-// Whether a product is 0 or below, by the signs of its factors: the product itself might not fit.
-pub fn apart(p: i64, q: i64) -> bool
-    ensures { λ r. ⌜ r ≡ leZ (p *ℤ q) (pos 0) ⌝ }
-{
-    if p < 0 {
-        return 0 <= q;
-    }
-    if 0 < p {
-        return q <= 0;
-    }
-    true
-}
-
-// Whether an image I is included in a digit's interval J. With p, q of I's left end and r, s of its right end: an end of I is in closed J where p·q, or r·s, is 0 or
-// below; an end of J is in closed I where p·r, or q·s, is; left ends are one point where p is 0, and right ends where s is. Most images are left out by their left end,
-// so r and s are formed behind that test.
-pub fn included(i: [i64; 4], j: [i64; 4]) -> bool
-    requires { ⌜ (Within 200000000000 i) × (Within 100 j) ⌝ }
-    ensures { λ r. ⌜ r ≡ included? i j ⌝ }
-{
-    let x = sides(i[0], i[1], j);
-    let p = x[0];
-    let q = x[1];
-    if !apart(p, q) {
+    if b < whole::magnitude(x) {
         return false;
     }
-    let y = sides(i[2], i[3], j);
-    let r = y[0];
-    let s = y[1];
-    if !apart(r, s) {
+    whole::magnitude(y) <= b
+}
+
+// Whether four numbers lie in −b..b. Of any four numbers at all.
+pub fn within(m: [i64; 4], b: u64) -> bool
+    ensures { λ r. ⌜ r ≡ within? b m ⌝ }
+{
+    if !both_near(m[0], m[1], b) {
         return false;
     }
-    if p == 0 {
-        if s == 0 {
-            return true;
-        }
-    }
-    if apart(p, r) {
-        return !apart(q, s);
-    }
-    true
+    both_near(m[2], m[3], b)
 }

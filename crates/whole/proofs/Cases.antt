@@ -1,19 +1,18 @@
--- The laws of the order that proofs cite by name: three cases of two numbers, steps of 1, signs of products and of their factors, cancelling, and the way from
--- natural numbers to whole numbers and back.
+-- The laws of the order that proofs cite by name: three cases of two numbers, signs of products and of their factors, cancelling, and the way from natural numbers to whole
+-- numbers and back.
 --
--- Each is a `claim` or two (proofs/Worked.antt explains how to read one), stated in plain ℤ. A number that a hypothesis shows only under a product is not inferred, and
--- is written: with p : pos 0 <ℤ a and e : (a *ℤ b) <ℤ (a *ℤ c), `cancel-< a b c p e : b <ℤ c`; but with q : b <ℤ pos 0, `ps-ng-mul p q : (a *ℤ b) <ℤ pos 0`.
+-- Each is a `claim` or two (proofs/Worked.antt explains how to read one), stated in plain ℤ. A law that is missing here is one line by `claim` where it is wanted. A number
+-- that a hypothesis shows only under a product is not inferred, and is written: with p : pos 0 <ℤ a and e : a *ℤ b ≡ a *ℤ c, `cancel-pos a b c p e : b ≡ c`.
 -- Elsewhere: ≤ is reflexive, < is not, and a < b ≤ c (`≤ℤ-refl`, `<ℤ-irrefl`, `<ℤ-≤ℤ-trans`, and `clashℤ` for two facts that can't both hold) in the kit's `lib.Signed`;
 -- antisymmetry (`≤-antisym`) and proofs by contradiction (`≤-by`, `<-by`) in proofs/Order.antt; what a test says in proofs/Test.antt.
--- Private: the cases of `product-ps`, `product-ng` and `zero-product` (`turned-..`, `nought-..`, `factor-zero`).
+-- Private: the cases of `product-ps` and `zero-product` (`factor-ps`, `turned-..`, `nought-ps`, `factor-zero`).
 use mathlib.Core.Path.{_≡_, ap}
 use mathlib.Core.Logic.{_⊎_, inl, inr}
-use Prim.Native.Nat.{ℕ, _≤_, _<_}
-use native.Mathlib.Omega.{arith}
+use Prim.Native.Nat.{ℕ, _≤_, _<_, zero-le}
 use lib.Dec.{leb→le, le→leb, ltb→lt, lt→ltb}
-use lib.IntN.{ℤ, pos, negℤ, natAbs, _+ℤ_, _*ℤ_}
+use lib.IntN.{ℤ, pos, natAbs, _*ℤ_}
 use lib.Signed.{_≤ℤ_, _<ℤ_, leZ-yes, ltZ-yes}
-use Rattle.whole.proofs.Polynomial.{_⊕_, _⊗_, ⊝_}
+use Rattle.whole.proofs.Polynomial.{_⊗_}
 use Rattle.whole.proofs.Law.{#}
 use Rattle.whole.proofs.Order.{<-or-≥, ≤-antisym}
 use Rattle.whole.proofs.Certificate.{_≦_, _≺_, _≈_, never, h, _⊡_}
@@ -30,67 +29,15 @@ pub data Tri (a b : ℤ) : Type 0 where
 pub tri : (a b : ℤ) → Tri a b
 tri a b = elim (<-or-≥ a b) [ inl p ↦ less p | inr p ↦ elim (<-or-≥ b a) [ inl q ↦ more q | inr q ↦ same (≤-antisym q p) ] ]
 
--- two cases of a number that is not negative, and of one that is not 0
-pub zero-or-above : (a : ℤ) → pos 0 ≤ℤ a → (a ≡ pos 0) ⊎ (pos 0 <ℤ a)
-zero-or-above a p = elim (<-or-≥ (pos 0) a) [ inl q ↦ inr q | inr q ↦ inl (≤-antisym q p) ]
-
-pub below-or-above : (a : ℤ) → (a ≡ pos 0 → ⊥) → (a <ℤ pos 0) ⊎ (pos 0 <ℤ a)
-below-or-above a f = elim (tri a (pos 0)) [ less p ↦ inl p | same p ↦ absurd (f p) | more p ↦ inr p ]
-
--- ---- chains, and steps of 1: no number lies between a and a + 1
-
-pub ≤-trans : {a b c : ℤ} → a ≤ℤ b → b ≤ℤ c → a ≤ℤ c
-≤-trans {a} {b} {c} = claim 3 (λ a b c. a ≦ b ⇒ b ≦ c ⇒ a ≦ c from linear) tt a b c
-
-pub <-trans : {a b c : ℤ} → a <ℤ b → b <ℤ c → a <ℤ c
-<-trans {a} {b} {c} = claim 3 (λ a b c. a ≺ b ⇒ b ≺ c ⇒ a ≺ c from linear) tt a b c
-
-pub ≤-<-trans : {a b c : ℤ} → a ≤ℤ b → b <ℤ c → a <ℤ c
-≤-<-trans {a} {b} {c} = claim 3 (λ a b c. a ≦ b ⇒ b ≺ c ⇒ a ≺ c from linear) tt a b c
-
-pub next-≤ : (a b : ℤ) → a <ℤ b → (a +ℤ pos 1) ≤ℤ b
-next-≤ = claim 2 (λ a b. a ≺ b ⇒ a ⊕ # 1 ≦ b from linear) tt
-
-pub ≤-next : (a b : ℤ) → a <ℤ (b +ℤ pos 1) → a ≤ℤ b
-≤-next = claim 2 (λ a b. a ≺ b ⊕ # 1 ⇒ a ≦ b from linear) tt
-
-pub <-next : (a b : ℤ) → a ≤ℤ b → a <ℤ (b +ℤ pos 1)
-<-next = claim 2 (λ a b. a ≦ b ⇒ a ≺ b ⊕ # 1 from linear) tt
-
-pub neg-< : (a b : ℤ) → a <ℤ b → negℤ b <ℤ negℤ a
-neg-< = claim 2 (λ a b. a ≺ b ⇒ ⊝ b ≺ ⊝ a from linear) tt
-
-pub neg-≤ : (a b : ℤ) → a ≤ℤ b → negℤ b ≤ℤ negℤ a
-neg-≤ = claim 2 (λ a b. a ≦ b ⇒ ⊝ b ≦ ⊝ a from linear) tt
-
--- ---- the sign of a product, from the signs of its factors: `ps` above 0, `ng` below 0, `nn` not below, `np` not above. The two cases that are left, `ps-mul` and
--- `nn-mul`, are in proofs/Order.antt; a factor that is 0 is the kit's `zero-*ℤ` and `*ℤ-zero`
-
-pub ps-ng-mul : {a b : ℤ} → pos 0 <ℤ a → b <ℤ pos 0 → (a *ℤ b) <ℤ pos 0
-ps-ng-mul {a} {b} = claim 2 (λ a b. # 0 ≺ a ⇒ b ≺ # 0 ⇒ a ⊗ b ≺ # 0 from quadratic) tt a b
-
-pub ng-ps-mul : {a b : ℤ} → a <ℤ pos 0 → pos 0 <ℤ b → (a *ℤ b) <ℤ pos 0
-ng-ps-mul {a} {b} = claim 2 (λ a b. a ≺ # 0 ⇒ # 0 ≺ b ⇒ a ⊗ b ≺ # 0 from quadratic) tt a b
-
-pub ng-ng-mul : {a b : ℤ} → a <ℤ pos 0 → b <ℤ pos 0 → pos 0 <ℤ (a *ℤ b)
-ng-ng-mul {a} {b} = claim 2 (λ a b. a ≺ # 0 ⇒ b ≺ # 0 ⇒ # 0 ≺ a ⊗ b from quadratic) tt a b
-
-pub nn-np-mul : {a b : ℤ} → pos 0 ≤ℤ a → b ≤ℤ pos 0 → (a *ℤ b) ≤ℤ pos 0
-nn-np-mul {a} {b} = claim 2 (λ a b. # 0 ≦ a ⇒ b ≦ # 0 ⇒ a ⊗ b ≦ # 0 from quadratic) tt a b
-
-pub np-nn-mul : {a b : ℤ} → a ≤ℤ pos 0 → pos 0 ≤ℤ b → (a *ℤ b) ≤ℤ pos 0
-np-nn-mul {a} {b} = claim 2 (λ a b. a ≦ # 0 ⇒ # 0 ≦ b ⇒ a ⊗ b ≦ # 0 from quadratic) tt a b
+-- ---- signs: `ps` above 0, `nn` not below, `np` not above. Of a product, from its factors (`ps-mul` and `nn-mul` are in proofs/Order.antt)
 
 pub np-np-mul : {a b : ℤ} → a ≤ℤ pos 0 → b ≤ℤ pos 0 → pos 0 ≤ℤ (a *ℤ b)
 np-np-mul {a} {b} = claim 2 (λ a b. a ≦ # 0 ⇒ b ≦ # 0 ⇒ # 0 ≦ a ⊗ b from quadratic) tt a b
 
 -- ---- the sign of a factor, from that of the product and of the other factor, a, which is above 0
 
-pub factor-ps : (a b : ℤ) → pos 0 <ℤ a → pos 0 <ℤ (a *ℤ b) → pos 0 <ℤ b
+factor-ps : (a b : ℤ) → pos 0 <ℤ a → pos 0 <ℤ (a *ℤ b) → pos 0 <ℤ b
 factor-ps = claim 2 (λ a b. # 0 ≺ a ⇒ # 0 ≺ a ⊗ b ⇒ # 0 ≺ b from quadratic) tt
-
-pub factor-ng : (a b : ℤ) → pos 0 <ℤ a → (a *ℤ b) <ℤ pos 0 → b <ℤ pos 0
-factor-ng = claim 2 (λ a b. # 0 ≺ a ⇒ a ⊗ b ≺ # 0 ⇒ b ≺ # 0 from quadratic) tt
 
 pub factor-nn : (a b : ℤ) → pos 0 <ℤ a → pos 0 ≤ℤ (a *ℤ b) → pos 0 ≤ℤ b
 factor-nn = claim 2 (λ a b. # 0 ≺ a ⇒ # 0 ≦ a ⊗ b ⇒ # 0 ≦ b from quadratic) tt
@@ -102,9 +49,6 @@ factor-np = claim 2 (λ a b. # 0 ≺ a ⇒ a ⊗ b ≦ # 0 ⇒ b ≦ # 0 from qu
 turned-ps : (a b : ℤ) → a <ℤ pos 0 → pos 0 <ℤ (a *ℤ b) → b <ℤ pos 0
 turned-ps = claim 2 (λ a b. a ≺ # 0 ⇒ # 0 ≺ a ⊗ b ⇒ b ≺ # 0 from quadratic) tt
 
-turned-ng : (a b : ℤ) → a <ℤ pos 0 → (a *ℤ b) <ℤ pos 0 → pos 0 <ℤ b
-turned-ng = claim 2 (λ a b. a ≺ # 0 ⇒ a ⊗ b ≺ # 0 ⇒ # 0 ≺ b from quadratic) tt
-
 turned-zero : (a b : ℤ) → a <ℤ pos 0 → a *ℤ b ≡ pos 0 → b ≡ pos 0
 turned-zero = claim 2 (λ a b. a ≺ # 0 ⇒ a ⊗ b ≈ # 0 ⇒ b ≈ # 0 from quadratic) tt
 
@@ -115,36 +59,18 @@ factor-zero = claim 2 (λ a b. # 0 ≺ a ⇒ a ⊗ b ≈ # 0 ⇒ b ≈ # 0 from 
 nought-ps : (a b : ℤ) → a ≡ pos 0 → pos 0 <ℤ (a *ℤ b) → ⊥
 nought-ps = claim 2 (λ a b. a ≈ # 0 ⇒ # 0 ≺ a ⊗ b ⇒ never from linear & b ⊡ h 1) tt
 
-nought-ng : (a b : ℤ) → a ≡ pos 0 → (a *ℤ b) <ℤ pos 0 → ⊥
-nought-ng = claim 2 (λ a b. a ≈ # 0 ⇒ a ⊗ b ≺ # 0 ⇒ never from linear & b ⊡ h 1) tt
-
 -- ---- the signs of both factors, from that of the product
 
 pub product-ps : (a b : ℤ) → pos 0 <ℤ (a *ℤ b) → ((pos 0 <ℤ a) × (pos 0 <ℤ b)) ⊎ ((a <ℤ pos 0) × (b <ℤ pos 0))
 product-ps a b e = elim (tri a (pos 0)) [ less p ↦ inr (p, turned-ps a b p e) | same p ↦ absurd (nought-ps a b p e) | more p ↦ inl (p, factor-ps a b p e) ]
 
-pub product-ng : (a b : ℤ) → (a *ℤ b) <ℤ pos 0 → ((pos 0 <ℤ a) × (b <ℤ pos 0)) ⊎ ((a <ℤ pos 0) × (pos 0 <ℤ b))
-product-ng a b e = elim (tri a (pos 0)) [ less p ↦ inr (p, turned-ng a b p e) | same p ↦ absurd (nought-ng a b p e) | more p ↦ inl (p, factor-ng a b p e) ]
-
 pub zero-product : (a b : ℤ) → a *ℤ b ≡ pos 0 → (a ≡ pos 0) ⊎ (b ≡ pos 0)
 zero-product a b e = elim (tri a (pos 0)) [ less p ↦ inr (turned-zero a b p e) | same p ↦ inl p | more p ↦ inr (factor-zero a b p e) ]
 
--- ---- a positive factor cancelled, and put in
+-- ---- a positive factor cancelled
 
 pub cancel-pos : (a b c : ℤ) → pos 0 <ℤ a → a *ℤ b ≡ a *ℤ c → b ≡ c
 cancel-pos = claim 3 (λ a b c. # 0 ≺ a ⇒ a ⊗ b ≈ a ⊗ c ⇒ b ≈ c from quadratic) tt
-
-pub cancel-< : (a b c : ℤ) → pos 0 <ℤ a → (a *ℤ b) <ℤ (a *ℤ c) → b <ℤ c
-cancel-< = claim 3 (λ a b c. # 0 ≺ a ⇒ a ⊗ b ≺ a ⊗ c ⇒ b ≺ c from quadratic) tt
-
-pub cancel-≤ : (a b c : ℤ) → pos 0 <ℤ a → (a *ℤ b) ≤ℤ (a *ℤ c) → b ≤ℤ c
-cancel-≤ = claim 3 (λ a b c. # 0 ≺ a ⇒ a ⊗ b ≦ a ⊗ c ⇒ b ≦ c from quadratic) tt
-
-pub scale-< : (a b c : ℤ) → pos 0 <ℤ a → b <ℤ c → (a *ℤ b) <ℤ (a *ℤ c)
-scale-< = claim 3 (λ a b c. # 0 ≺ a ⇒ b ≺ c ⇒ a ⊗ b ≺ a ⊗ c from quadratic) tt
-
-pub scale-≤ : (a b c : ℤ) → pos 0 ≤ℤ a → b ≤ℤ c → (a *ℤ b) ≤ℤ (a *ℤ c)
-scale-≤ = claim 3 (λ a b c. # 0 ≦ a ⇒ b ≦ c ⇒ a ⊗ b ≦ a ⊗ c from quadratic) tt
 
 -- ---- the naturals: `pos a +ℤ pos b` is `pos (a + b)` and `pos a *ℤ pos b` is `pos (a * b)`, by computation. So a fact of naturals goes up into ℤ, through a `law` or
 -- a `claim`, and down again; `nat n` is what the claim may be told of each
@@ -165,7 +91,4 @@ pub down≡ : {a b : ℕ} → pos a ≡ pos b → a ≡ b
 down≡ p = ap natAbs p
 
 pub nat : (n : ℕ) → pos 0 ≤ℤ pos n
-nat n = up≤ (e n)
-  where
-    e : (n : ℕ) → 0 ≤ n
-    e n = omega arith
+nat n = up≤ zero-le

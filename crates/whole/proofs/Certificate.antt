@@ -6,17 +6,17 @@
 -- A goal that is an equation takes a certificate of equations instead: a sum of multiples `e ⊡ h i` of facts that are equations.
 --
 -- What others name: the facts ≦ ≺ ≈ `never`, and the certificate's parts: `h i`, `num n` for a number, `sq e` for a square, ⊞ and ⊠ for sum and product, `e ⊡ c` for an
--- equation times any expression, `dec c` for 0 ≤ x − 1 from 0 < x. The statements are written with proofs/Claim.antt. Private: the law of each part (`addS-ok`, ..).
+-- equation times any expression, `dec c` for 0 ≤ x − 1 from 0 < x. The statements are written with proofs/Claim.antt. Private: the law of each part (`cert-ok`, ..).
 use mathlib.Core.Path.{_≡_, refl, sym, _∙_, ap, ap₂, subst}
-use mathlib.Core.Bool.{Bool, true, false, not}
+use mathlib.Core.Bool.{Bool, true, false}
 use mathlib.Core.List.{List, [], _∷_}
-use Prim.Native.Nat.{ℕ, zero, suc, _≤_, _<_}
-use native.Mathlib.Omega.{arith}
-use lib.Dec.{T, lt→ltb, le→leb, T-not, eqb-refl}
-use lib.IntN.{ℤ, pos, negsuc, _+ℤ_, _*ℤ_, _-ℤ_, +ℤ-idl, +ℤ-idr, *ℤ-zero, *ℤ-comm}
-use lib.Signed.{leZ, ltZ, _≤ℤ_, _<ℤ_, leZ-yes, ltZ-yes, clashℤ, ≤ℤ-refl}
-use Rattle.whole.proofs.Polynomial.{E, con, _⊕_, _⊖_, _⊗_, eval, H, C, X, evalH, hd, tl, norm, norm-ok, isZ, isZero, isZero-ok, and, and-l, and-r}
-use Rattle.whole.proofs.Order.{sub-of-le, sub-of-lt, nn-add, nn-mul, ps-add, ps-mul, nn-sq, ps-dec, ≤-of-<, ≤-by, <-by}
+use Prim.Native.Nat.{ℕ, zero, suc}
+use lib.Dec.{T}
+use lib.IntN.{ℤ, pos, negsuc, _+ℤ_, _*ℤ_, _-ℤ_, +ℤ-idl, +ℤ-idr, *ℤ-zero}
+use lib.Signed.{_≤ℤ_, _<ℤ_, ≤ℤ-refl}
+use Rattle.whole.proofs.Polynomial.{E, con, _⊕_, _⊖_, _⊗_, eval, H, C, X, evalH, hd, tl, norm, norm-ok, isZero, isZero-ok, and, and-l, and-r}
+use Rattle.whole.proofs.Sign.{Sgn, nn, ps, zr, Sat, addS, mulS, numS, decS, wrong, addS-ok, mul-zr, mulS-ok, num-ok, wrong-ok}
+use Rattle.whole.proofs.Order.{sub-of-le, sub-of-lt, nn-sq, ps-dec, ≤-by, <-by}
 
 -- ---- facts and goals
 
@@ -32,29 +32,6 @@ Holds (a ≦ b) ρ = eval a ρ ≤ℤ eval b ρ
 Holds (a ≺ b) ρ = eval a ρ <ℤ eval b ρ
 Holds (a ≈ b) ρ = eval a ρ ≡ eval b ρ
 Holds never ρ = ⊥
-
--- ---- what is known of the sign of a value: not negative, positive, or 0; and of sums and products
-pub data Sgn : Type 0 where
-  nn ps zr : Sgn
-
-abbrev pub Sat : Sgn → ℤ → Type 0
-Sat nn z = pos 0 ≤ℤ z
-Sat ps z = pos 0 <ℤ z
-Sat zr z = z ≡ pos 0
-
-abbrev pub addS : Sgn → Sgn → Sgn
-addS nn nn = nn
-addS nn ps = ps
-addS nn zr = nn
-addS ps t = ps
-addS zr t = t
-
-abbrev pub mulS : Sgn → Sgn → Sgn
-mulS nn nn = nn
-mulS nn ps = nn
-mulS nn zr = zr
-mulS ps t = t
-mulS zr t = zr
 
 -- ---- certificates. Of each: the polynomial that it stands for (`poly`), and what is known of its sign (`sgn`)
 
@@ -87,15 +64,6 @@ polyA (a ≺ b) = b ⊖ a
 polyA (a ≈ b) = b ⊖ a
 polyA never = con (negsuc 0)
 
-abbrev pub numS : ℕ → Sgn
-numS zero = nn
-numS (suc n) = ps
-
-abbrev pub decS : Sgn → Sgn
-decS nn = nn
-decS ps = nn
-decS zr = zr
-
 abbrev pub sgn : List Atom → Cert → Sgn
 sgn hs (h i) = sgnA (nthA hs i)
 sgn hs (num n) = numS n
@@ -127,33 +95,6 @@ poly hs (dec c) = decP (sgn hs c) (poly hs c)
 
 -- ---- soundness: where the facts hold, the polynomial has that sign
 
-nn-pos : (n : ℕ) → pos 0 ≤ℤ pos n
-nn-pos n = leZ-yes (le→leb 0 n (e n))
-  where
-    e : (n : ℕ) → 0 ≤ n
-    e n = omega arith
-
-addS-ok : (s t : Sgn) (x y : ℤ) → Sat s x → Sat t y → Sat (addS s t) (x +ℤ y)
-addS-ok nn nn x y p q = nn-add p q
-addS-ok nn ps x y p q = subst (λ z. pos 0 <ℤ z) (lib.IntN.+ℤ-comm y x) (ps-add q p)
-addS-ok nn zr x y p q = subst (λ z. pos 0 ≤ℤ z) (sym (ap (λ w. x +ℤ w) q ∙ +ℤ-idr x)) p
-addS-ok ps nn x y p q = ps-add p q
-addS-ok ps ps x y p q = ps-add p (≤-of-< q)
-addS-ok ps zr x y p q = subst (λ z. pos 0 <ℤ z) (sym (ap (λ w. x +ℤ w) q ∙ +ℤ-idr x)) p
-addS-ok zr t x y p q = subst (λ z. Sat t z) (sym (ap (λ w. w +ℤ y) p ∙ +ℤ-idl y)) q
-
-mul-zr : (x y : ℤ) → y ≡ pos 0 → x *ℤ y ≡ pos 0
-mul-zr x y q = ap (λ w. x *ℤ w) q ∙ *ℤ-zero x
-
-mulS-ok : (s t : Sgn) (x y : ℤ) → Sat s x → Sat t y → Sat (mulS s t) (x *ℤ y)
-mulS-ok nn nn x y p q = nn-mul p q
-mulS-ok nn ps x y p q = nn-mul p (≤-of-< q)
-mulS-ok nn zr x y p q = mul-zr x y q
-mulS-ok ps nn x y p q = nn-mul (≤-of-< p) q
-mulS-ok ps ps x y p q = ps-mul p q
-mulS-ok ps zr x y p q = mul-zr x y q
-mulS-ok zr t x y p q = *ℤ-comm x y ∙ mul-zr y x p
-
 unfoldable pub AllH : List Atom → List ℤ → Type 0
 AllH [] ρ = Unit {0}
 AllH (a ∷ hs) ρ = Holds a ρ × AllH hs ρ
@@ -172,13 +113,6 @@ atom-ok (a ≦ b) ρ k = sub-of-le k
 atom-ok (a ≺ b) ρ k = sub-of-lt k
 atom-ok (a ≈ b) ρ k = sub-eq (eval a ρ) (eval b ρ) k
 atom-ok never ρ k = absurd k
-
-num-ok : (n : ℕ) → Sat (numS n) (pos n)
-num-ok zero = nn-pos 0
-num-ok (suc n) = ltZ-yes (lt→ltb 0 (suc n) (e n))
-  where
-    e : (n : ℕ) → 0 < suc n
-    e n = omega arith
 
 dec-ok : (s : Sgn) (e : E) (ρ : List ℤ) → Sat s (eval e ρ) → Sat (decS s) (eval (decP s e) ρ)
 dec-ok nn e ρ k = k
@@ -209,11 +143,6 @@ abbrev pub isConst : H → Bool
 isConst (C z) = true
 isConst (X p q) = and (isConst p) (isZero q)
 
-abbrev pub wrong : Sgn → ℤ → Bool
-wrong nn z = ltZ z (pos 0)
-wrong ps z = leZ z (pos 0)
-wrong zr z = not (isZ z)
-
 abbrev pub refutes : Sgn → H → Bool
 refutes s p = and (wrong s (lead p)) (isConst p)
 
@@ -222,11 +151,6 @@ const-ok (C z) t ρ = refl
 const-ok (X p q) t ρ =
     ap₂ (λ a b. a +ℤ hd ρ *ℤ b) (const-ok p (and-l (isConst p) (isZero q) t) (tl ρ)) (isZero-ok q (and-r (isConst p) (isZero q) t) ρ)
     ∙ ap (λ w. lead p +ℤ w) (*ℤ-zero (hd ρ)) ∙ +ℤ-idr (lead p)
-
-wrong-ok : (s : Sgn) (z : ℤ) → T (wrong s z) → Sat s z → ⊥
-wrong-ok nn z t k = clashℤ (ltZ-yes t) k
-wrong-ok ps z t k = clashℤ k (leZ-yes t)
-wrong-ok zr z t k = T-not (isZ z) t (subst (λ w. T (isZ w)) (sym k) (eqb-refl 0))
 
 refutes-ok : (hs : List Atom) (c : Cert) → T (refutes (sgn hs c) (norm (poly hs c))) → (ρ : List ℤ) → AllH hs ρ → ⊥
 refutes-ok hs c t ρ k =

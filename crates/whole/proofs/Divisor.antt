@@ -1,24 +1,18 @@
 -- The greatest common divisor, of two natural numbers and of four whole numbers.
 --
--- specs/Divisor.antt defines it by Euclid's steps. Here: it divides both, every common divisor divides it, Bézout's numbers, and Euclid's step as an equation.
--- Then the four entries of a matrix: divided by their greatest common divisor they have none but 1 (`reduced`), and no other four numbers with that property have them as
--- a multiple (`reduced-only`, `reduced-form`). `Times4 k n m` is k·n = m, entry by entry.
+-- specs/Divisor.antt defines it by Euclid's steps. Here: it divides both, every common divisor divides it, and Euclid's step as an equation.
+-- Then the four entries of a matrix: divided by their greatest common divisor they have none but 1 (`reduced`), and no other divisor leaves that (`reduced-only`). `Times4 k n m` is k·n = m, entry by entry.
 -- Private: the laws by the number of steps (`by-..`), and those of one entry (`sizes`, `up`, `down`).
 use mathlib.Core.Path.{_≡_, sym, _∙_, ap, subst}
 use mathlib.Core.List.{List}
 use Prim.Native.Nat.{ℕ, zero, suc, _*_, _/_, _%_, _≤_, _<_, _∣_}
 use native.Mathlib.Nat as N
 use native.Mathlib.Omega.{arith}
-use lib.IntN.{ℤ, pos, negsuc, negℤ, natAbs, _+ℤ_, _*ℤ_, _-ℤ_}
+use lib.IntN.{ℤ, pos, negsuc, negℤ, natAbs, _*ℤ_}
 use lib.Signed.{quotZ}
 use Rattle.whole.specs.Range.{at}
 use Rattle.whole.specs.Divisor.{gcdBy, gcd, gcd4, divided, Divides4}
 use Rattle.whole.proofs.Ring.{mul-neg}
-use Rattle.whole.proofs.Polynomial.{_⊕_, _⊖_, _⊗_, ⊝_}
-use Rattle.whole.proofs.Law.{#, _≗_, law}
-use Rattle.whole.proofs.Certificate.{_≈_, h, _⊞_, _⊡_}
-use Rattle.whole.proofs.Claim.{_⇒_, _by_, claim}
-use Rattle.whole.proofs.Cases.{cancel-pos, up<}
 use Rattle.whole.proofs.Range.{natAbs-mul, natAbs-zero}
 
 -- ---- two natural numbers
@@ -40,19 +34,6 @@ by-greatest zero a b d p q = p
 by-greatest (suc k) a zero d p q = p
 by-greatest (suc k) a (suc b) d p q = by-greatest k (suc b) (a % suc b) d q (N.dvd-mod-iff d q .1 p)
 
-by-bezout : (k a b : ℕ) → (x : ℤ) × (y : ℤ) × (pos (gcdBy k a b) ≡ x *ℤ pos a +ℤ y *ℤ pos b)
-unfolding gcdBy
-by-bezout zero a b = (pos 1, pos 0, law 2 (λ a b. a ≗ # 1 ⊗ a ⊕ # 0 ⊗ b) tt (pos a) (pos b))
-by-bezout (suc k) a zero = (pos 1, pos 0, law 2 (λ a b. a ≗ # 1 ⊗ a ⊕ # 0 ⊗ b) tt (pos a) (pos 0))
-by-bezout (suc k) a (suc b) =
-    let ih = by-bezout k (suc b) (a % suc b) in (
-      ih .1,
-      ih .0 -ℤ ih .1 *ℤ pos (a / suc b),
-      claim 7 (λ g x y a b r q. g ≈ x ⊗ b ⊕ y ⊗ r ⇒ a ≈ q ⊗ b ⊕ r ⇒ g ≈ y ⊗ a ⊕ (x ⊖ y ⊗ q) ⊗ b by (⊝ # 1) ⊡ h 1 ⊞ y ⊡ h 2) tt
-          (pos (gcdBy k (suc b) (a % suc b))) (ih .0) (ih .1) (pos a) (pos (suc b)) (pos (a % suc b)) (pos (a / suc b))
-          (ih .2) (ap pos (sym (N.div-add-mod' a (suc b)))),
-    )
-
 pub gcd-divides-left : (a b : ℕ) → gcd a b ∣ a
 unfolding gcd
 gcd-divides-left a b = by-divides b a b (N.le-refl b) .0
@@ -64,10 +45,6 @@ gcd-divides-right a b = by-divides b a b (N.le-refl b) .1
 pub gcd-greatest : (a b d : ℕ) → d ∣ a → d ∣ b → d ∣ gcd a b
 unfolding gcd
 gcd-greatest a b d = by-greatest b a b d
-
-pub bezout : (a b : ℕ) → (x : ℤ) × (y : ℤ) × (pos (gcd a b) ≡ x *ℤ pos a +ℤ y *ℤ pos b)
-unfolding gcd
-bezout a b = by-bezout b a b
 
 -- Euclid's end and his step
 pub gcd-end : (a b : ℕ) → b ≡ 0 → gcd a b ≡ a
@@ -149,7 +126,7 @@ up4 j t v = record { d0 = up j (t .t0) (v .d0); d1 = up j (t .t1) (v .d1); d2 = 
 pub down4 : {k : ℕ} {n m : List ℤ} (j : ℕ) → 0 < k → Times4 k n m → Divides4 (k * j) m → Divides4 j n
 down4 j p t v = record { d0 = down j p (t .t0) (v .d0); d1 = down j p (t .t1) (v .d1); d2 = down j p (t .t2) (v .d2); d3 = down j p (t .t3) (v .d3) }
 
-one4 : (n : List ℤ) → Divides4 1 n
+pub one4 : (n : List ℤ) → Divides4 1 n
 one4 n = record { d0 = N.one-dvd (natAbs (at n 0)); d1 = N.one-dvd (natAbs (at n 1)); d2 = N.one-dvd (natAbs (at n 2)); d3 = N.one-dvd (natAbs (at n 3)) }
 
 pub gcd4-times : {k : ℕ} {n m : List ℤ} → 0 < k → Times4 k n m → gcd4 m ≡ k * gcd4 n
@@ -170,13 +147,3 @@ reduced m p =
 -- and the divisor that leaves none but 1 is the greatest
 pub reduced-only : {k : ℕ} {n m : List ℤ} → 0 < k → Times4 k n m → gcd4 n ≡ 1 → k ≡ gcd4 m
 reduced-only {k} p t e = sym (N.mul-one k) ∙ ap (λ (j : ℕ). k * j) (sym e) ∙ sym (gcd4-times p t)
-
--- so the four numbers are those that dividing gives: the reduced form is the only one
-pub reduced-form : {k : ℕ} {n m : List ℤ} → 0 < k → Times4 k n m → gcd4 n ≡ 1
-    → let d = divided m (gcd4 m) in (at n 0 ≡ at d 0) × (at n 1 ≡ at d 1) × (at n 2 ≡ at d 2) × (at n 3 ≡ at d 3)
-reduced-form {k} {n} {m} p t e =
-    let v = divided-times (gcd4-divides m) in
-    (once (t .t0) (v .t0), once (t .t1) (v .t1), once (t .t2) (v .t2), once (t .t3) (v .t3))
-  where
-    once : {x y z : ℤ} → Times k x z → Times (gcd4 m) y z → x ≡ y
-    once {x} {y} a b = cancel-pos (pos k) x y (up< p) (a .times ∙ sym (b .times) ∙ ap (λ (j : ℕ). pos j *ℤ y) (sym (reduced-only p t e)))

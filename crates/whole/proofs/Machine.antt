@@ -10,9 +10,9 @@ use mathlib.Core.Path.{_≡_, refl, sym, ap₂, subst, subst₂, _∙_}
 use Prim.Native.Nat.{ℕ, _+_, _*_, _<_, _≤_, _^_}
 use native.Mathlib.Nat.{lt-of-le-of-lt, le-refl}
 use native.Mathlib.Omega.{arith}
-use lib.Dec.{T, ltb, ltb→lt, leb→le}
+use lib.Dec.{T, ltb, ltb→lt}
 use lib.IntN.{ℤ, pos, negsuc, natAbs, _+ℤ_, _-ℤ_, _*ℤ_}
-use lib.Signed.{mag, nonNeg, _≤ℤ_, natAbs-le, pos-natAbs, yes-nonNeg}
+use lib.Signed.{mag, nonNeg, _≤ℤ_, yes-nonNeg}
 use mir.Syntax.{Width, w16, w64}
 use mir.Val.{Fits, SFits, ofZ, toZ}
 use mir.Facts.{toZ-ofZ, toZ-pos, sfits-widen, fits-natAbs}
@@ -64,26 +64,13 @@ narrow-fits f = cast-fits (sfits-widen tt f) f
 pub narrow-back : {z : ℤ} → SFits w16 z → toZ w16 (ofZ w16 (toZ w64 (ofZ w64 z))) ≡ z
 narrow-back f = cast-back (sfits-widen tt f) f
 
--- which numbers an i16 holds: −32768 to 32767. `element-16` is for an element of a slice, of which the check hands out the bound as `.given`
+-- an element of a slice, of which the check hands out the bound as `.given`
 pub element-16 : (z : ℤ) → mag z < 2 ^ 15 → SFits w16 z
 element-16 z h = record { sfits = h }
-
-pub near-16 : {z : ℤ} → SFits w16 z → Near 32768 z
-near-16 {z} f = record { near = natAbs-le z (f .sfits) }
-
-pub near-fits-16 : {b : ℕ} {z : ℤ} → Near b z → T (ltb b (2 ^ 15)) → SFits w16 z
-near-fits-16 {b} {z} h t = record { sfits = lt-of-le-of-lt (mag-le z) (lt-of-le-of-lt (h .near) (ltb→lt b (2 ^ 15) t)) }
-
-pub fits-16 : (z : ℤ) → negsuc 32767 ≤ℤ z → z ≤ℤ pos 32767 → SFits w16 z
-fits-16 (pos n) p q = record { sfits = omega (arith, leb→le n 32767 (q .le)) }
-fits-16 (negsuc n) p q = record { sfits = omega (arith, leb→le n 32767 (p .le)) }
 
 -- i64 to u64: of a number that is not negative. The cast's result is `natAbs` of what is read
 pub unsigned-ok : {z : ℤ} → SFits w64 z → pos 0 ≤ℤ z → T (nonNeg (toZ w64 (ofZ w64 z))) × Fits w64 (natAbs (toZ w64 (ofZ w64 z)))
 unsigned-ok {z} f p = rw (toZ-ofZ f) (yes-nonNeg p, fits-natAbs tt f)
-
-pub unsigned-back : {z : ℤ} → SFits w64 z → pos 0 ≤ℤ z → pos (natAbs (toZ w64 (ofZ w64 z))) ≡ z
-unsigned-back {z} f p = rw (toZ-ofZ f) (pos-natAbs z (yes-nonNeg p))
 
 -- ---- what the machine holds in place of a number: u stands for z, which lies within b of 0.
 -- One law for each operation: what is asked of it (`mul-ok`), and what it then holds (`mul-stands`)
@@ -91,10 +78,6 @@ unsigned-back {z} f p = rw (toZ-ofZ f) (pos-natAbs z (yes-nonNeg p))
 pub record Stands (b : ℕ) (u z : ℤ) : Type 0 where
   pub is : u ≡ z
   pub near : Near b z
-
--- a number as it is
-pub plain : {b : ℕ} {z : ℤ} → Near b z → Stands b z z
-plain h = record { is = refl; near = h }
 
 -- a parameter, a local or a call's result
 pub stored : {b : ℕ} {z : ℤ} → Near b z → T (ltb b (2 ^ 63)) → Stands b (toZ w64 (ofZ w64 z)) z

@@ -9,7 +9,7 @@
 use mathlib.Core.Path.{_≡_, sym, _∙_, ap, subst}
 use mathlib.Core.Bool.{Bool, true, false, not, cond}
 use mathlib.Core.Logic.{_⊎_, inl, inr}
-use Prim.Native.Nat.{ℕ, zero, suc, _+_, _*_, _-_, _≤_, _<_}
+use Prim.Native.Nat.{ℕ, zero-le, zero, suc, _+_, _*_, _-_, _≤_, _<_}
 use native.Mathlib.Nat as N
 use native.Mathlib.Omega.{arith}
 use lib.Dec.{T, ltb, ltb→lt, lt→ltb, le→leb, leb→le}
@@ -72,18 +72,12 @@ le-of-sub {a} {b} h = let g = gap h in le-of-gap (g .0) (law 2 (λ a b. b ≗ a 
 -- ---- sums, products and squares of numbers that are not negative, or positive
 
 nn-mul′ : (a b : ℤ) → T (leZ (pos 0) a) → T (leZ (pos 0) b) → T (leZ (pos 0) (a *ℤ b))
-nn-mul′ (pos a) (pos b) s t = le→leb 0 (a * b) (e (a * b))
-  where
-    e : (x : ℕ) → 0 ≤ x
-    e x = omega arith
+nn-mul′ (pos a) (pos b) s t = le→leb 0 (a * b) zero-le
 nn-mul′ (pos a) (negsuc b) s t = absurd t
 nn-mul′ (negsuc a) b s t = absurd s
 
 nn-add′ : (a b : ℤ) → T (leZ (pos 0) a) → T (leZ (pos 0) b) → T (leZ (pos 0) (a +ℤ b))
-nn-add′ (pos a) (pos b) s t = le→leb 0 (a + b) (e (a + b))
-  where
-    e : (x : ℕ) → 0 ≤ x
-    e x = omega arith
+nn-add′ (pos a) (pos b) s t = le→leb 0 (a + b) zero-le
 nn-add′ (pos a) (negsuc b) s t = absurd t
 nn-add′ (negsuc a) b s t = absurd s
 
@@ -101,22 +95,13 @@ ps-add′ (pos a) (negsuc b) s t = absurd t
 ps-add′ (negsuc a) b s t = absurd s
 
 sq′ : (a : ℤ) → T (leZ (pos 0) (a *ℤ a))
-sq′ (pos a) = le→leb 0 (a * a) (e (a * a))
-  where
-    e : (x : ℕ) → 0 ≤ x
-    e x = omega arith
-sq′ (negsuc a) = le→leb 0 (suc a * suc a) (e (suc a * suc a))
-  where
-    e : (x : ℕ) → 0 ≤ x
-    e x = omega arith
+sq′ (pos a) = le→leb 0 (a * a) zero-le
+sq′ (negsuc a) = le→leb 0 (suc a * suc a) zero-le
 
 -- 0 ≤ z − 1 from 0 < z
 dec′ : (z : ℤ) → T (ltZ (pos 0) z) → T (leZ (pos 0) (z -ℤ pos 1))
 dec′ (pos zero) t = absurd t
-dec′ (pos (suc n)) t = subst (λ z. T (leZ (pos 0) z)) (sym (-ℤ-one (pos (suc n)))) (le→leb 0 n (e n))
-  where
-    e : (x : ℕ) → 0 ≤ x
-    e x = omega arith
+dec′ (pos (suc n)) t = subst (λ z. T (leZ (pos 0) z)) (sym (-ℤ-one (pos (suc n)))) (le→leb 0 n zero-le)
 dec′ (negsuc n) t = absurd t
 
 pub nn-mul : {a b : ℤ} → pos 0 ≤ℤ a → pos 0 ≤ℤ b → pos 0 ≤ℤ (a *ℤ b)

@@ -50,9 +50,6 @@ natAbs-zero {z = negsuc n} e = absurd (omega arith)
 
 -- ---- ranges
 
-pub near-zero : (b : ℕ) → Near b (pos 0)
-near-zero b = record { near = omega arith }
-
 pub near-le : {a b : ℕ} {x : ℤ} → Near a x → T (leb a b) → Near b x
 near-le {a} {b} h t = record { near = le-trans (h .near) (leb→le a b t) }
 

@@ -4,8 +4,7 @@
 -- induction from 0 both ways. They are what proofs/Polynomial.antt is built on. Anywhere else an identity is one line by `law` (proofs/Law.antt), and no chain of these.
 use mathlib.Core.Path.{_≡_, sym, _∙_, ap, ap₂}
 use Prim.Native.Nat.{zero, suc}
-use lib.IntN.{ℤ, pos, negsuc, sucℤ, predℤ, negℤ, _+ℤ_, _*ℤ_, _-ℤ_, +ℤ-idl, +ℤ-idr, +ℤ-assoc, +ℤ-comm, +ℤ-invr, +ℤ-invl}
-use lib.IntN.{zero-*ℤ, sucℤ-*ℤ, predℤ-*ℤ, *ℤ-comm, sucℤ-+ℤ, predℤ-+ℤ}
+use lib.IntN.{ℤ, pos, negsuc, sucℤ, predℤ, negℤ, _+ℤ_, _*ℤ_, _-ℤ_, +ℤ-idl, +ℤ-idr, +ℤ-assoc, +ℤ-comm, +ℤ-invr, +ℤ-invl, zero-*ℤ, sucℤ-*ℤ, predℤ-*ℤ, *ℤ-comm, sucℤ-+ℤ, predℤ-+ℤ}
 
 -- from 0, up and down
 ind : (P : ℤ → Type 0) → P (pos zero) → ((k : ℤ) → P k → P (sucℤ k)) → ((k : ℤ) → P k → P (predℤ k)) → (k : ℤ) → P k

@@ -17,8 +17,8 @@ use lib.IntN.{ℤ, pos, negsuc, negℤ, natAbs, _+ℤ_, _*ℤ_}
 use lib.Signed.{quotZ}
 use Rattle.whole.proofs.Polynomial.{con, H, C, X, nth, norm, add, neg, scale, isZ, and, and-l, and-r}
 use Rattle.whole.proofs.Order.{≤-antisym}
-use Rattle.whole.proofs.Certificate.{Atom, _≦_, _≺_, _≈_, never, Holds, AllH, isZr, proves, proves-ok, lead}
-use Rattle.whole.proofs.Certificate.{Sgn, nn, ps, zr, Cert, h, num, _⊞_, _⊠_, _⊡_, dec, sgn, poly}
+use Rattle.whole.proofs.Sign.{Sgn, nn, ps, zr}
+use Rattle.whole.proofs.Certificate.{Atom, _≦_, _≺_, _≈_, never, Holds, AllH, isZr, proves, proves-ok, lead, Cert, h, num, _⊞_, _⊠_, _⊡_, dec, sgn, poly}
 
 -- ---- the monomials of a normal form, by their place in it
 

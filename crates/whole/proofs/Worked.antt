@@ -5,20 +5,15 @@
 --   the same, for the prover to read:          law 2 (λ a b. (a ⊕ b) ⊗ .. ≗ ..) tt
 -- The prover's half has a circled sign for each operation: ⊕ ⊖ ⊗, ⊝ a for −a, # 3 for the number 3; ≗ for an identity; in claims ≦, ≺, ≈ for ≤, <, =, and
 -- `never` for a contradiction. The 2 counts the variables. `tt` stands for the test, which has to compute to true. The check compares the two halves, so they can't
--- differ. The signs come by the `use` lines below. Nothing here is used by other files, and all names are private: it is here to be read, and to be checked.
+-- differ. The signs come by one `use` line, below; from another crate it is
+-- `use Rattle.whole.proofs.Laws.{..}`. Nothing here is used by other files, and all names are private: it is here to be read, and to be checked.
 use mathlib.Core.Path.{_≡_, refl}
 use mathlib.Core.List.{[], _∷_}
 use Prim.Native.Nat.{ℕ, _+_, _*_, _≤_}
 use lib.IntN.{ℤ, pos, negℤ, _+ℤ_, _-ℤ_, _*ℤ_}
 use lib.Signed.{_≤ℤ_, _<ℤ_}
 use Rattle.whole.specs.Worked.{determinant, det}
-use Rattle.whole.proofs.Polynomial.{E, _⊕_, _⊖_, _⊗_, ⊝_}
-use Rattle.whole.proofs.Law.{#, _≗_, law, Ident, by-ring, term, left-over}
-use Rattle.whole.proofs.Order.{ps-mul}
-use Rattle.whole.proofs.Certificate.{_≦_, _≺_, _≈_, never, h, num, sq, dec, _⊞_, _⊠_, _⊡_}
-use Rattle.whole.proofs.Search.{linear, quadratic, _&_}
-use Rattle.whole.proofs.Claim.{_⇒_, _by_, _from_, claim, Fact, fact, found}
-use Rattle.whole.proofs.Cases.{tri, less, same, more, ng-ng-mul, up≤, down≤, down≡, nat}
+use Rattle.whole.proofs.Laws.{E, _⊕_, _⊖_, _⊗_, ⊝_, #, _≗_, law, Ident, by-ring, left-over, term, _≦_, _≺_, _≈_, never, h, num, sq, dec, _⊞_, _⊠_, _⊡_, linear, quadratic, _&_, _⇒_, _by_, _from_, claim, Fact, fact, found, ps-mul, tri, less, same, more, up≤, down≤, down≡, nat}
 
 -- ---- identities
 
@@ -33,23 +28,9 @@ Det = determinant E _⊖_ _⊗_
 det-product : (a b c d e f g i : ℤ) → det (a *ℤ e +ℤ b *ℤ g) (a *ℤ f +ℤ b *ℤ i) (c *ℤ e +ℤ d *ℤ g) (c *ℤ f +ℤ d *ℤ i) ≡ det a b c d *ℤ det e f g i
 det-product = law 8 (λ a b c d e f g i. Det (a ⊗ e ⊕ b ⊗ g) (a ⊗ f ⊕ b ⊗ i) (c ⊗ e ⊕ d ⊗ g) (c ⊗ f ⊕ d ⊗ i) ≗ Det a b c d ⊗ Det e f g i) tt
 
--- the three-term identity of four vectors: det(x, z)·det(y, w) = det(x, y)·det(z, w) + det(x, w)·det(y, z)
-three-terms : (x x′ y y′ z z′ w w′ : ℤ) → det x x′ z z′ *ℤ det y y′ w w′ ≡ det x x′ y y′ *ℤ det z z′ w w′ +ℤ det x x′ w w′ *ℤ det y y′ z z′
-three-terms = law 8 (λ x x′ y y′ z z′ w w′. Det x x′ z z′ ⊗ Det y y′ w w′ ≗ Det x x′ y y′ ⊗ Det z z′ w w′ ⊕ Det x x′ w w′ ⊗ Det y y′ z z′) tt
-
--- M times its pseudoinverse [d, −b, −c, a] is the determinant times the identity: the entries of the first row
-pseudoinverse-own : (a b c d : ℤ) → a *ℤ d +ℤ b *ℤ negℤ c ≡ det a b c d
-pseudoinverse-own = law 4 (λ a b c d. a ⊗ d ⊕ b ⊗ ⊝ c ≗ Det a b c d) tt
-
-pseudoinverse-other : (a b : ℤ) → a *ℤ negℤ b +ℤ b *ℤ a ≡ pos 0
-pseudoinverse-other = law 2 (λ a b. a ⊗ ⊝ b ⊕ b ⊗ a ≗ # 0) tt
-
--- A statement that only expressions show, and its reading in ℤ by `.at`: for a long step inside a proof. Here det(LMN), of twelve variables.
-det-product-3 : Ident 12 (λ a b c d e f g h i j k l.
-    Det ((a ⊗ e ⊕ b ⊗ g) ⊗ i ⊕ (a ⊗ f ⊕ b ⊗ h) ⊗ k) ((a ⊗ e ⊕ b ⊗ g) ⊗ j ⊕ (a ⊗ f ⊕ b ⊗ h) ⊗ l)
-    ((c ⊗ e ⊕ d ⊗ g) ⊗ i ⊕ (c ⊗ f ⊕ d ⊗ h) ⊗ k) ((c ⊗ e ⊕ d ⊗ g) ⊗ j ⊕ (c ⊗ f ⊕ d ⊗ h) ⊗ l)
-    ≗ Det a b c d ⊗ (Det e f g h ⊗ Det i j k l))
-det-product-3 = by-ring tt
+-- A statement that only expressions show, and its reading in ℤ by `.at`: for a long step inside a proof.
+det-turned : Ident 4 (λ a b c d. Det a b c d ⊕ Det c d a b ≗ # 0)
+det-turned = by-ring tt
 
 -- ---- claims: facts ⇒ facts ⇒ goal from what. The search adds up the facts, each as often as it likes (`linear`), and the products that are named to it by `&`;
 -- `quadratic` names all products of two facts, and is for up to six of them. In products `h 1`, `h 2`, .. are the facts in order, and `h 0` is the goal's negation.
@@ -73,13 +54,6 @@ bounded = claim 2 (λ a b. ⊝ # 1000 ≦ a ⇒ a ≦ # 1000 ⇒ ⊝ # 1000 ≦ 
 squares : (a b : ℤ) → (pos 2 *ℤ (a *ℤ b)) ≤ℤ (a *ℤ a +ℤ b *ℤ b)
 squares = claim 2 (λ a b. # 2 ⊗ (a ⊗ b) ≦ a ⊗ a ⊕ b ⊗ b from linear & sq (a ⊖ b)) tt
 
--- five facts: of four vectors, five pairs that turn left make the sixth turn left. The products to name are read off `three-terms`.
-turns : (x x′ y y′ z z′ w w′ : ℤ) → pos 0 <ℤ det x x′ y y′ → pos 0 <ℤ det z z′ w w′ → pos 0 <ℤ det x x′ w w′ → pos 0 <ℤ det y y′ z z′ → pos 0 <ℤ det y y′ w w′
-    → pos 0 <ℤ det x x′ z z′
-turns = claim 8 (λ x x′ y y′ z z′ w w′.
-    # 0 ≺ Det x x′ y y′ ⇒ # 0 ≺ Det z z′ w w′ ⇒ # 0 ≺ Det x x′ w w′ ⇒ # 0 ≺ Det y y′ z z′ ⇒ # 0 ≺ Det y y′ w w′ ⇒ # 0 ≺ Det x x′ z z′
-    from linear & h 1 ⊠ h 2 & h 3 ⊠ h 4 & h 0 ⊠ h 5) tt
-
 -- equations among the facts: the search takes them any number of times, and multiplies them by an expression where that is named, `u ⊡ h 1`. A matrix of determinant 1
 -- is undone by its pseudoinverse:
 undone : (a b c d u v x y : ℤ) → det a b c d ≡ pos 1 → x ≡ a *ℤ u +ℤ b *ℤ v → y ≡ c *ℤ u +ℤ d *ℤ v → u ≡ d *ℤ x -ℤ b *ℤ y
@@ -92,7 +66,7 @@ clash = claim 1 (λ a. a ≺ # 0 ⇒ # 0 ≺ a ⇒ never from linear) tt
 
 -- Where the sign of a number decides, split first (`tri`), and claim each case.
 square-above : (a : ℤ) → (a ≡ pos 0 → ⊥) → pos 0 <ℤ (a *ℤ a)
-square-above a f = elim (tri a (pos 0)) [ less p ↦ ng-ng-mul p p | same p ↦ absurd (f p) | more p ↦ ps-mul p p ]
+square-above a f = elim (tri a (pos 0)) [ less p ↦ claim 1 (λ a. a ≺ # 0 ⇒ # 0 ≺ a ⊗ a from quadratic) tt a p | same p ↦ absurd (f p) | more p ↦ ps-mul p p ]
 
 -- ---- certificates: `by` and a sum of products that is a contradiction. The test multiplies it out. For a claim where the search takes long.
 
@@ -125,6 +99,3 @@ left = refl
 -- of a claim, the certificate that the search found, or `num 0` where it found none: then name a product, add a fact, or look whether the claim is true
 certificate : found 3 (λ a b c. a ≺ b ⇒ b ≦ c ⇒ a ≺ c from linear) ≡ num 1 ⊠ h 2 ⊞ (num 1 ⊠ dec (h 1) ⊞ (num 1 ⊠ h 0 ⊞ num 0))
 certificate = refl
-
-none : found 2 (λ a b. a ≦ b ⇒ a ≺ b from quadratic) ≡ num 0
-none = refl

@@ -5,7 +5,7 @@ use Prim.Native.Nat.{_+_, _*_, _^_}
 use native.Mathlib.Omega.{arith}
 use lib.Dec.{T, ltb, ltb→lt, lt→ltb}
 use lib.IntN.{ℤ}
-use Rattle.whole.proofs.Machine.{mul-ok, mul-stands, sub-ok, sub-stands}
+use Rattle.whole.proofs.Laws.{mul-ok, mul-stands, sub-ok, sub-stands}
 use Rattle.plane.specs.Fits.{Products}
 use Rattle.plane.specs.Plane.{determinantOf}
 use Rattle.plane.proofs.Words.{read}

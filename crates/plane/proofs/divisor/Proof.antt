@@ -1,5 +1,5 @@
--- `plane::divisor` meets its contract: a word read from the array is read back as it is, and the rest is what `magnitude` and `gcd` ensure. Where the first two entries
--- have no common divisor but 1, the four have none either.
+-- `plane::divisor` meets its contract: a word read from the array is read back as it is, and the rest is what the calls ensure. Where the first two entries have no common
+-- divisor but 1, the four have none either.
 use borrow.Author.Needs.{needs}
 use mathlib.Core.Path.{_≡_, sym, _∙_, ap, ap₂}
 use Prim.Native.Nat.{ℕ}
@@ -7,50 +7,41 @@ use native.Mathlib.Nat.{one-dvd, dvd-antisymm}
 use lib.IntN.{ℤ, natAbs}
 use Rattle.whole.specs.Range.{at}
 use Rattle.whole.specs.Divisor.{gcd, gcd4}
-use Rattle.whole.proofs.Divisor.{gcd-divides-left}
-use Rattle.whole.proofs.Machine.{back-of}
+use Rattle.whole.proofs.Laws.{gcd-divides-left, back-of}
 use Rattle.plane.proofs.Words.{held, Fits}
 use Rattle.plane.proofs.divisor.Statement.{statement}
 use Rattle.plane.proofs.divisor.Tie as tie
-
-size : (z : ℤ) {n : ℕ} → Fits z → n ≡ natAbs (held z) → n ≡ natAbs z
-size z fits e = e ∙ ap natAbs (back-of z fits)
 
 -- 1 and any number
 one-gcd : (n : ℕ) → gcd 1 n ≡ 1
 one-gcd n = dvd-antisymm (gcd-divides-left 1 n) (one-dvd (gcd 1 n))
 
+two : (x y : ℤ) {n : ℕ} → Fits x → Fits y → n ≡ gcd (natAbs (held x)) (natAbs (held y)) → n ≡ gcd (natAbs x) (natAbs y)
+two x y f g e = e ∙ (λ i. gcd (natAbs (back-of x f i)) (natAbs (back-of y g i)))
+
 -- the first two entries
-first : (g : tie.After-gcd) → let m = g .before .before .before .before .before .before .before .before .before .args .t1 in
-    g .gcd .result ≡ gcd (natAbs (at m 0)) (natAbs (at m 1))
-first g =
-    let s3 = g .before in
-    let s1 = s3 .before .before .before .before in
-    let s0 = s1 .before .before in
-    let m = s0 .before .before .args .t1 in
-    g .gcd .ensures ∙ ap₂ gcd (size (at m 0) (s0 .before .magnitude-arg .given) (s0 .magnitude .ensures)) (size (at m 1) (s1 .before .magnitude-arg2 .given) (s1 .magnitude2 .ensures))
+first : (c : tie.After-divisor-of-two) → let m = c .before .before .before .args .t1 in c .divisor-of-two .result ≡ gcd (natAbs (at m 0)) (natAbs (at m 1))
+first c =
+    let m = c .before .before .before .args .t1 in
+    two (at m 0) (at m 1) (c .before .before .divisor-of-two-arg .given) (c .before .divisor-of-two-arg2 .given) (c .divisor-of-two .ensures)
 
 returns : tie.Need-returns
 unfolding gcd4
 returns c =
-    let g = c .before in
-    let m = g .before .before .before .before .before .before .before .before .before .args .t1 in
-    let one = sym (first g) ∙ c .if1 .taken in
-    sym (ap (λ (k : ℕ). gcd k (gcd (natAbs (at m 2)) (natAbs (at m 3)))) one ∙ one-gcd (gcd (natAbs (at m 2)) (natAbs (at m 3))))
+    let m = c .before .before .before .before .args .t1 in
+    let rest = gcd (natAbs (at m 2)) (natAbs (at m 3)) in
+    sym (ap (λ (k : ℕ). gcd k rest) (sym (first (c .before)) ∙ c .if1 .taken) ∙ one-gcd rest)
 
 returns-2 : tie.Need-returns-2
 unfolding gcd4
 returns-2 c =
-    let g = c .before .before .before in
-    let s3 = g .before in
-    let s2 = s3 .before .before in
-    let m = s2 .before .before .before .before .before .before .args .t1 in
-    let c′ = size (at m 2) (s2 .before .magnitude-arg3 .given) (s2 .magnitude3 .ensures) in
-    let d = size (at m 3) (s3 .before .magnitude-arg4 .given) (s3 .magnitude4 .ensures) in
-    c .gcd3 .ensures ∙ ap₂ gcd (first g) (c .before .gcd2 .ensures ∙ ap₂ gcd c′ d)
+    let d = c .before in
+    let g = d .before .before .before .before in
+    let m = g .before .before .before .args .t1 in
+    c .gcd .ensures ∙
+    ap₂ gcd (first g) (two (at m 2) (at m 3) (d .before .before .divisor-of-two-arg3 .given) (d .before .divisor-of-two-arg4 .given) (d .divisor-of-two2 .ensures))
 
 pub divisor-spec : {M : Type 1} → statement M
 divisor-spec = tie.close (tie.spec
-    (λ c. search needs) (λ c κs. search needs) (λ c. search needs) (λ c κs. search needs)
-    (λ c. search needs) (λ c κs. search needs) (λ c. search needs) (λ c κs. search needs)
-    (λ c κs. search needs) returns (λ c κs. search needs) (λ c κs. search needs) returns-2)
+    (λ c. search needs) (λ c. search needs) (λ c κs. search needs) returns
+    (λ c. search needs) (λ c. search needs) (λ c κs. search needs) (λ c κs. search needs) returns-2)

@@ -1,5 +1,5 @@
 -- `plane::dot` meets its contract: the ranges keep each product and their sum within a word.
-use Rattle.whole.proofs.Machine.{stored, mul-ok, mul-stands, add-ok, add-stands}
+use Rattle.whole.proofs.Laws.{stored, mul-ok, mul-stands, add-ok, add-stands}
 use Rattle.plane.proofs.dot.Statement.{statement}
 use Rattle.plane.proofs.dot.Tie as tie
 

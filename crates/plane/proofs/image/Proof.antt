@@ -4,10 +4,9 @@ use mathlib.Core.Path.{_≡_, _∙_, ap}
 use mathlib.Core.List.{List, [], _∷_}
 use lib.IntN.{ℤ}
 use Rattle.whole.specs.Range.{at}
-use Rattle.whole.proofs.Range.{within-le}
-use Rattle.whole.proofs.Machine.{back, near-back, ok-back}
+use Rattle.whole.proofs.Laws.{within-le, back, near-back, ok-back}
 use Rattle.plane.specs.Plane.{multiplyOf, apply, imageOf}
-use Rattle.plane.proofs.Words.{entries}
+use Rattle.plane.proofs.Identities.{four-equal}
 use Rattle.plane.proofs.image.Statement.{statement}
 use Rattle.plane.proofs.image.Tie as tie
 
@@ -24,8 +23,8 @@ returns c =
     let s = k .before .before .before .before .before in
     let w = s .pre .1 in
     let e : k .multiply .result ≡ multiplyOf (s .args .m) (at (s .args .t2) 0 ∷ at (s .args .t2) 2 ∷ at (s .args .t2) 1 ∷ at (s .args .t2) 3 ∷ []) =
-    k .multiply .ensures ∙ ap (multiplyOf (s .args .m)) (entries (back (w .n0) tt) (back (w .n2) tt) (back (w .n1) tt) (back (w .n3) tt)) in
-    entries
+    k .multiply .ensures ∙ ap (multiplyOf (s .args .m)) (four-equal (back (w .n0) tt) (back (w .n2) tt) (back (w .n1) tt) (back (w .n3) tt)) in
+    four-equal
     (ok-back (c .before .before .before .t82 .given) ∙ ap (λ (l : List ℤ). at l 0) e)
     (ok-back (c .before .before .t112 .given) ∙ ap (λ (l : List ℤ). at l 2) e)
     (ok-back (c .before .t172 .given) ∙ ap (λ (l : List ℤ). at l 1) e)

@@ -3,9 +3,10 @@ use borrow.Author.Needs.{needs}
 use mathlib.Core.Path.{_≡_, _∙_}
 use lib.IntN.{ℤ, _+ℤ_, _*ℤ_}
 use Rattle.whole.specs.Range.{Near}
-use Rattle.whole.proofs.Machine.{back, near-back, ok-back}
+use Rattle.whole.proofs.Laws.{back, near-back, ok-back}
 use Rattle.plane.specs.Plane.{multiplyOf}
-use Rattle.plane.proofs.Words.{held, Fits, entries}
+use Rattle.plane.proofs.Words.{held, Fits}
+use Rattle.plane.proofs.Identities.{four-equal}
 use Rattle.plane.proofs.multiply.Statement.{statement}
 use Rattle.plane.proofs.multiply.Tie as tie
 
@@ -24,7 +25,7 @@ unfolding multiplyOf
 returns c =
     let s = c .before .before .before in
     let p = start (s .before) .pre in
-    entries
+    four-equal
     (entry (p .0 .n0) (p .0 .n1) (p .1 .n0) (p .1 .n2) (s .dot .ok) (s .dot .ensures))
     (entry (p .0 .n0) (p .0 .n1) (p .1 .n1) (p .1 .n3) (c .before .before .dot2 .ok) (c .before .before .dot2 .ensures))
     (entry (p .0 .n2) (p .0 .n3) (p .1 .n0) (p .1 .n2) (c .before .dot3 .ok) (c .before .dot3 .ensures))

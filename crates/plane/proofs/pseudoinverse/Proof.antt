@@ -3,9 +3,10 @@ use borrow.Author.Needs.{needs}
 use mathlib.Core.Path.{_≡_, _∙_}
 use lib.IntN.{ℤ, pos, negℤ, _-ℤ_, +ℤ-idl}
 use Rattle.whole.specs.Range.{Near}
-use Rattle.whole.proofs.Machine.{literal, stored, back, sub-ok, sub-stands}
+use Rattle.whole.proofs.Laws.{literal, stored, back, sub-ok, sub-stands}
 use Rattle.plane.specs.Plane.{pseudoinverseOf}
-use Rattle.plane.proofs.Words.{held, entries}
+use Rattle.plane.proofs.Words.{held}
+use Rattle.plane.proofs.Identities.{four-equal}
 use Rattle.plane.proofs.pseudoinverse.Statement.{statement}
 use Rattle.plane.proofs.pseudoinverse.Tie as tie
 
@@ -14,7 +15,7 @@ negated {z} h = sub-stands (literal (pos 0)) (stored h tt) tt .is ∙ +ℤ-idl (
 
 returns : tie.Need-returns
 unfolding pseudoinverseOf
-returns c = let p = c .before .before .before .before .pre in entries (back (p .n3) tt) (negated (p .n1)) (negated (p .n2)) (back (p .n0) tt)
+returns c = let p = c .before .before .before .before .pre in four-equal (back (p .n3) tt) (negated (p .n1)) (negated (p .n2)) (back (p .n0) tt)
 
 pub pseudoinverse-spec : {M : Type 1} → statement M
 pseudoinverse-spec = tie.close (tie.spec

@@ -1,4 +1,4 @@
--- `plane::included` meets its contract: document 01's test is one on the signs of four determinants (proofs/Signs.antt), and the words that hold them tell these signs.
+-- `inclusion::included` meets its contract: document 01's test is one on the signs of four determinants (proofs/Signs.antt), and the words that hold them tell these signs.
 use borrow.Author.Needs.{needs}
 use borrow.Author.Tests.{not-true, not-false, ne-eqb}
 use mathlib.Core.Path.{_≡_, refl, sym, _∙_, ap, subst}
@@ -11,13 +11,12 @@ use lib.Signed.{leZ}
 use mir.Syntax.{w64}
 use mir.Val.{ofZ, toZ}
 use Rattle.whole.specs.Range.{at}
-use Rattle.whole.proofs.Range.{natAbs-zero}
-use Rattle.whole.proofs.Machine.{back, near-back, back-of}
-use Rattle.plane.specs.Inclusion.{included?, sidesOf}
-use Rattle.plane.proofs.Signs.{agree, included-sides, verdict}
-use Rattle.plane.proofs.Words.{held, Fits}
-use Rattle.plane.proofs.included.Statement.{statement}
-use Rattle.plane.proofs.included.Tie as tie
+use Rattle.whole.proofs.Laws.{natAbs-zero, back, near-back, back-of}
+use Rattle.inclusion.specs.Inclusion.{included?, sidesOf}
+use Rattle.inclusion.proofs.Signs.{agree, included-sides, verdict}
+use Rattle.plane.proofs.Laws.{held, Fits}
+use Rattle.inclusion.proofs.included.Statement.{statement}
+use Rattle.inclusion.proofs.included.Tie as tie
 
 -- a word is 0 exactly if the number that it holds is
 nought : (p : ℤ) → Fits p → eqb (ofZ w64 p) 0 ≡ eqb (natAbs p) 0
@@ -25,7 +24,7 @@ nought p fits = agree (eqb (ofZ w64 p) 0) (eqb (natAbs p) 0)
     (λ t. subst (λ (z : ℤ). T (eqb (natAbs z) 0)) (sym (sym (back-of p fits) ∙ ap (toZ w64) (eqb→eq (ofZ w64 p) 0 t))) tt)
     (λ t. subst (λ (z : ℤ). T (eqb (ofZ w64 z) 0)) (sym (natAbs-zero {z = p} (eqb→eq (natAbs p) 0 t))) tt)
 
--- what `apart` answers of two words, and the whole test by the words
+-- what `opposite` answers of two words, and the whole test by the words
 abbrev opposite : ℤ → ℤ → Bool
 opposite p q = leZ (held p *ℤ held q) (pos 0)
 
@@ -40,7 +39,7 @@ same-test p q r s fp fq fr fs =
     let d = back-of s fs in
     λ k. leZ (a k *ℤ b k) (pos 0) && leZ (c k *ℤ d k) (pos 0) && (nought p fp k && nought s fs k || not (leZ (a k *ℤ c k) (pos 0)) || not (leZ (b k *ℤ d k) (pos 0)))
 
--- what a call of `apart` tells where its negation was tested
+-- what a call of `opposite` tells where its negation was tested
 holds : {r t : Bool} → r ≡ t → not r ≡ false → t ≡ true
 holds {r} e h = sym e ∙ not-false r h
 
@@ -68,7 +67,7 @@ returns c =
     let a = start d .args in
     let out : leZ (at (d .sides .result) 0 *ℤ at (d .sides .result) 1) (pos 0) ≡ false =
     sym (λ k. leZ (back-of (at (d .sides .result) 0) (q .before .p .given) k *ℤ back-of (at (d .sides .result) 1) (q .q .given) k) (pos 0)) ∙
-    fails (c .before .apart .ensures) (c .if1 .taken) in
+    fails (c .before .opposite .ensures) (c .if1 .taken) in
     rw (included-sides (a .t1) (a .j) (left-sides d) refl, out)
 
 -- ---- the right end too
@@ -103,12 +102,12 @@ says c =
 
 -- the left end lies in closed J
 left-in : (c : tie.Else1) → let d = to-left c .sides .result in opposite (at d 0) (at d 1) ≡ true
-left-in c = holds (c .before .apart .ensures) (c .if1 .left)
+left-in c = holds (c .before .opposite .ensures) (c .if1 .left)
 
 returns-2 : tie.Need-returns-2
 returns-2 c =
     let s = c .before .before in
-    rw (says s, left-in (ends s), fails (c .before .apart2 .ensures) (c .if2 .taken))
+    rw (says s, left-in (ends s), fails (c .before .opposite2 .ensures) (c .if2 .taken))
 
 -- both lie in it: are the ends the same points? If not, is an end of J outside closed I?
 abbrev last : tie.Else2 → tie.After-s
@@ -118,7 +117,7 @@ both-in : (c : tie.Else2) → let s = last c in
     asked (to-left (ends s)) ≡
     (eqb (ofZ w64 (beside-left s 0)) 0 && eqb (ofZ w64 (beside-right s 1)) 0 ||
     not (opposite (beside-left s 0) (beside-right s 0)) || not (opposite (beside-left s 1) (beside-right s 1)))
-both-in c = rw (says (last c), left-in (ends (last c)), holds (c .before .apart2 .ensures) (c .if2 .left))
+both-in c = rw (says (last c), left-in (ends (last c)), holds (c .before .opposite2 .ensures) (c .if2 .left))
 
 unequal : (c : tie.Joined3) → let s = last (c .before) in
     asked (to-left (ends s)) ≡ (not (opposite (beside-left s 0) (beside-right s 0)) || not (opposite (beside-left s 1) (beside-right s 1)))
@@ -131,10 +130,10 @@ returns-3 : tie.Need-returns-3
 returns-3 c = rw (both-in (c .before .before), c .before .if3 .taken, c .if4 .taken)
 
 returns-4 : tie.Need-returns-4
-returns-4 c = let k = c .before .before in rw (unequal (k .before), sym (k .apart3 .ensures) ∙ c .before .if5 .taken) (ap not (c .apart4 .ensures))
+returns-4 c = let k = c .before .before in rw (unequal (k .before), sym (k .opposite3 .ensures) ∙ c .before .if5 .taken) (ap not (c .opposite4 .ensures))
 
 returns-5 : tie.Need-returns-5
-returns-5 c = rw (unequal (c .before .before), sym (c .before .apart3 .ensures) ∙ c .if5 .left)
+returns-5 c = rw (unequal (c .before .before), sym (c .before .opposite3 .ensures) ∙ c .if5 .left)
 
 pub included-spec : {M : Type 1} → statement M
 included-spec = tie.close (tie.spec

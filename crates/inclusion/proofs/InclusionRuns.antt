@@ -5,9 +5,9 @@ use mathlib.Core.Bool.{true, false}
 use mathlib.Core.List.{List, [], _∷_}
 use lib.IntN.{ℤ, pos, negℤ}
 use lib.Signed.{ltZ-yes}
 use Rattle.plane.specs.Plane.{left, right}
-use Rattle.plane.specs.Inclusion.{Included, closed?, same?, included?}
-use Rattle.plane.proofs.Inclusion.{included-says, not-included-says}
+use Rattle.inclusion.specs.Inclusion.{Included, closed?, same?, included?}
+use Rattle.inclusion.proofs.Inclusion.{included-says, not-included-says}
 
 -- Each has a determinant below 0, so 1/1 is written −1/−1 and 0/1 is 0/−1 where the interval runs through infinity.
 abbrev pub from-1-to-infinity : List ℤ

@@ -6,32 +6,22 @@
 -- The argument. The test is read in the four numbers of InclusionSigns.antt (`Seen`). There its answer decides (`answer`) between "every mixture α·x + β·y of
 -- I's ends with α·β > 0 is inside J" and "one such mixture is outside". And these mixtures are the points inside I: each point z is one, up to a factor, by
 -- Cramer's rule det(x, y)·z = det(z, y)·x + det(x, z)·y (`mixture`); and each of them is inside I (`mix-inside`).
-use mathlib.Core.Path.{_≡_, refl, sym, _∙_, ap, ap₂, subst}
+use mathlib.Core.Path.{_≡_, sym, _∙_, ap, ap₂, subst}
 use mathlib.Core.Bool.{Bool, true, false, _&&_}
 use mathlib.Core.List.{List}
 use lib.Dec.{T}
 use lib.IntN.{ℤ, pos, negℤ, _+ℤ_, _*ℤ_}
 use lib.Signed.{_≤ℤ_, _<ℤ_, clashℤ}
-use Rattle.whole.proofs.Polynomial.{E, _⊕_, _⊖_, _⊗_, ⊝_}
-use Rattle.whole.proofs.Law.{#, _≗_, law}
-use Rattle.whole.proofs.Certificate.{_≺_, _≈_, never, h, _⊞_, _⊠_, _⊡_}
-use Rattle.whole.proofs.Claim.{_⇒_, _by_, claim}
-use Rattle.whole.proofs.Order.{≤-of-<}
+use Rattle.whole.proofs.Laws.{_⊕_, _⊖_, _⊗_, ⊝_, #, _≗_, law, _≺_, _≈_, never, h, _⊞_, _⊠_, _⊡_, _⇒_, _by_, claim, ≤-of-<, both-true, true-by}
+use Rattle.plane.proofs.Laws.{Det, det-turned, three-terms}
 use Rattle.plane.specs.Plane.{Pair, Point, det, left, right, Interval, Inside, Closed}
-use Rattle.plane.specs.Inclusion.{Included, closed?, same?, included?}
-use Rattle.plane.proofs.InclusionSigns.{EndsIn, Kept, keep-equal, keep-u, keep-v, Mixture, kept-closed, kept-inside, Off, off-left, off-right, off-round}
-use Rattle.plane.proofs.InclusionTests.{same-zero, zero-same, Judged, left-out, right-out, equal, u-out, v-out, round, judge}
-pub use Rattle.plane.proofs.InclusionTests.{closed-says, says-closed, not-closed, not-closed-says, same-says, says-same}
+use Rattle.inclusion.specs.Inclusion.{Included, closed?, same?, included?}
+use Rattle.inclusion.proofs.InclusionSigns.{EndsIn, Kept, keep-equal, keep-u, keep-v, Mixture, kept-closed, kept-inside, Off, off-left, off-right, off-round}
+use Rattle.inclusion.proofs.InclusionTests.{closed-says, not-closed-says, same-zero, zero-same, Judged, left-out, right-out, equal, u-out, v-out, round, judge}
 
 -- the four numbers: det(x, v), det(u, x), det(y, v), det(u, y)
 abbrev Seen : (ℤ → ℤ → ℤ → ℤ → Type 0) → List ℤ → List ℤ → Type 0
 Seen P i j = P (det (left i) (right j)) (det (left j) (left i)) (det (right i) (right j)) (det (left j) (right i))
-
-abbrev Det : E → E → E → E → E
-Det x0 x1 y0 y1 = x0 ⊗ y1 ⊖ x1 ⊗ y0
-
-flip : (x y : Pair) → det x y ≡ negℤ (det y x)
-flip x y = law 4 (λ x0 x1 y0 y1. Det x0 x1 y0 y1 ≗ ⊝ Det y0 y1 x0 x1) tt (x .z0) (x .z1) (y .z0) (y .z1)
 
 -- ---- what the test's answer says of the four numbers
 
@@ -47,15 +37,11 @@ ends-in {i} {j} p q l r = record {
   right-in = r .not-below;
 }
 
-first-holds : (p q : Bool) → p && q ≡ true → p ≡ true
-first-holds true q e = refl
-first-holds false q e = e
-
 data Answer (i j : List ℤ) : Bool → Type 0 where
   holds : Seen Kept i j → Answer i j true
   fails : Seen Off i j → Answer i j false
 
--- In each of the six ways: `flip` turns det(x, u) into −det(u, x), and det(v, y) into −det(y, v).
+-- In each of the six ways: `det-turned` turns det(x, u) into −det(u, x), and det(v, y) into −det(y, v).
 module _ {i j : List ℤ} (p : Interval i) (q : Interval j) where
   abbrev Tests : Bool → Type 0
   Tests = Judged (closed? j (left i)) (closed? j (right i)) (same? (left i) (left j) && same? (right i) (right j)) (closed? i (left j)) (closed? i (right j))
@@ -67,15 +53,15 @@ module _ {i j : List ℤ} (p : Interval i) (q : Interval j) where
   answered (left-out l) = fails (off-left (not-closed-says j (left i) l))
   answered (right-out r) = fails (off-right (not-closed-says j (right i) r))
   answered (equal l r e) = holds (keep-equal (ends l r)
-      (flip (left j) (left i) ∙ ap negℤ (same-zero (left i) (left j) (first-holds (same? (left i) (left j)) (same? (right i) (right j)) e))))
+      (det-turned (left j) (left i) ∙ ap negℤ (same-zero (left i) (left j) (both-true (same? (left i) (left j)) (same? (right i) (right j)) e .0))))
   answered (u-out l r o) = holds (keep-u (ends l r)
-      (subst (λ t. (t *ℤ det (left j) (right i)) <ℤ pos 0) (flip (left i) (left j)) (not-closed-says i (left j) o)))
+      (subst (λ t. (t *ℤ det (left j) (right i)) <ℤ pos 0) (det-turned (left i) (left j)) (not-closed-says i (left j) o)))
   answered (v-out l r o) = holds (keep-v (ends l r)
-      (subst (λ t. (det (left i) (right j) *ℤ t) <ℤ pos 0) (flip (right j) (right i)) (not-closed-says i (right j) o)))
+      (subst (λ t. (det (left i) (right j) *ℤ t) <ℤ pos 0) (det-turned (right j) (right i)) (not-closed-says i (right j) o)))
   answered (round l r e u v) = fails (off-round (ends l r) record {
-    u-in = subst (λ t. pos 0 ≤ℤ (t *ℤ det (left j) (right i))) (flip (left i) (left j)) (closed-says u .not-below);
-    v-in = subst (λ t. pos 0 ≤ℤ (det (left i) (right j) *ℤ t)) (flip (right j) (right i)) (closed-says v .not-below);
-    not-equal = λ b c. subst T (sym (ap₂ _&&_ (zero-same (left i) (left j) (flip (left i) (left j) ∙ ap negℤ b)) (zero-same (right i) (right j) c)) ∙ e) tt;
+    u-in = subst (λ t. pos 0 ≤ℤ (t *ℤ det (left j) (right i))) (det-turned (left i) (left j)) (closed-says u .not-below);
+    v-in = subst (λ t. pos 0 ≤ℤ (det (left i) (right j) *ℤ t)) (det-turned (right j) (right i)) (closed-says v .not-below);
+    not-equal = λ b c. subst T (sym (ap₂ _&&_ (zero-same (left i) (left j) (det-turned (left i) (left j) ∙ ap negℤ b)) (zero-same (right i) (right j) c)) ∙ e) tt;
   })
 
   answer : Answer i j (included? i j)
@@ -92,11 +78,7 @@ off (fails o) e = o
 
 -- ---- the test holds: a point z of I has det(x, y)·z = det(z, y)·x + det(x, z)·y, and its coordinates are mixed likewise
 
-mixed-right : (x y z v : Pair) → det x y *ℤ det z v ≡ det z y *ℤ det x v +ℤ det x z *ℤ det y v
-mixed-right x y z v =
-    law 8 (λ x0 x1 y0 y1 z0 z1 v0 v1. Det x0 x1 y0 y1 ⊗ Det z0 z1 v0 v1 ≗ Det z0 z1 y0 y1 ⊗ Det x0 x1 v0 v1 ⊕ Det x0 x1 z0 z1 ⊗ Det y0 y1 v0 v1) tt
-    (x .z0) (x .z1) (y .z0) (y .z1) (z .z0) (z .z1) (v .z0) (v .z1)
-
+-- the other coordinate; the first is `three-terms`
 mixed-left : (x y z u : Pair) → det x y *ℤ det u z ≡ det z y *ℤ det u x +ℤ det x z *ℤ det u y
 mixed-left x y z u =
     law 8 (λ x0 x1 y0 y1 z0 z1 u0 u1. Det x0 x1 y0 y1 ⊗ Det u0 u1 z0 z1 ≗ Det z0 z1 y0 y1 ⊗ Det u0 u1 x0 x1 ⊕ Det x0 x1 z0 z1 ⊗ Det u0 u1 y0 y1) tt
@@ -106,7 +88,7 @@ module _ {i j : List ℤ} (p : Interval i) (q : Interval j) (e : included? i j �
   mixture : (z : Pair) → Seen (λ a b c d. Mixture (det (left i) (right i)) (det z (right i)) (det (left i) z) a b c d (det z (right j)) (det (left j) z)) i j
   mixture z = record {
     below = p .below;
-    first = mixed-right (left i) (right i) z (right j);
+    first = three-terms (left i) (right i) z (right j);
     second = mixed-left (left i) (right i) z (left j);
     ends = kept (answer p q) e;
   }
@@ -126,11 +108,11 @@ pub record Escaped (i j : List ℤ) : Type 0 where
   pub not-inside : Inside j z → ⊥
   pub not-closed : Closed j z → ⊥
 
-abbrev mix : ℤ → ℤ → Pair → Pair → Pair
+abbrev pub mix : ℤ → ℤ → Pair → Pair → Pair
 mix α β x y = record { z0 = α *ℤ x .z0 +ℤ β *ℤ y .z0; z1 = α *ℤ x .z1 +ℤ β *ℤ y .z1 }
 
 -- the product for z = α·x + β·y is β·α·det(x, y)²
-mix-inside : {i : List ℤ} (α β : ℤ) → Interval i → pos 0 <ℤ (β *ℤ α) → Inside i (mix α β (left i) (right i))
+pub mix-inside : {i : List ℤ} (α β : ℤ) → Interval i → pos 0 <ℤ (β *ℤ α) → Inside i (mix α β (left i) (right i))
 mix-inside {i} α β p s = record {
   above =
       claim 6 (λ α β x0 x1 y0 y1. Det x0 x1 y0 y1 ≺ # 0 ⇒ # 0 ≺ β ⊗ α ⇒
@@ -175,8 +157,4 @@ module _ {i j : List ℤ} (p : Interval i) (q : Interval j) where
   not-included-says e k = let o = not-included e in o .not-inside (k .every (o .z) (o .point) (o .inside))
 
   pub says-included : Included i j → included? i j ≡ true
-  says-included k = decide (included? i j) (λ e. not-included-says e k)
-    where
-      decide : (b : Bool) → (b ≡ false → ⊥) → b ≡ true
-      decide true f = refl
-      decide false f = absurd (f refl)
+  says-included k = true-by (included? i j) (λ e. not-included-says e k)

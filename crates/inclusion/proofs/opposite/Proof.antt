@@ -1,12 +1,12 @@
--- `plane::apart` meets its contract: the sign of a product follows from the signs of its factors.
+-- `inclusion::opposite` meets its contract: the sign of a product follows from the signs of its factors.
 use mathlib.Core.Path.{_∙_, ap}
 use lib.IntN.{ℤ, pos}
 use lib.Signed.{leZ}
 use mir.Facts.{toZ-ofZ}
-use Rattle.whole.proofs.Test.{lt-true, lt-false}
-use Rattle.plane.proofs.Signs.{below-times, above-times, nought-times}
-use Rattle.plane.proofs.apart.Statement.{statement}
-use Rattle.plane.proofs.apart.Tie as tie
+use Rattle.whole.proofs.Laws.{lt-true, lt-false}
+use Rattle.inclusion.proofs.Signs.{below-times, above-times, nought-times}
+use Rattle.inclusion.proofs.opposite.Statement.{statement}
+use Rattle.inclusion.proofs.opposite.Tie as tie
 
 returns : tie.Need-returns
 returns c =
@@ -26,5 +26,5 @@ returns-3 c =
     let p = toZ-ofZ (s .fits .p) in
     nought-times (s .args .p) (s .args .q) (lt-false _ _ (simp p at (c .before .if1 .left))) (lt-false _ _ (simp p at (c .if2 .left)))
 
-pub apart-spec : {M : Type 1} → statement M
-apart-spec = tie.close (tie.spec returns returns-2 returns-3)
+pub opposite-spec : {M : Type 1} → statement M
+opposite-spec = tie.close (tie.spec returns returns-2 returns-3)

@@ -9,12 +9,7 @@
 use mathlib.Core.Path.{_≡_}
 use lib.IntN.{ℤ, pos, negℤ, _+ℤ_, _*ℤ_, _-ℤ_, *ℤ-comm}
 use lib.Signed.{_≤ℤ_, _<ℤ_}
-use Rattle.whole.proofs.Polynomial.{E, _⊕_, _⊖_, _⊗_, ⊝_}
-use Rattle.whole.proofs.Law.{#}
-use Rattle.whole.proofs.Certificate.{_≦_, _≺_, _≈_, never, Cert, h, sq, dec, _⊞_, _⊠_, _⊡_}
-use Rattle.whole.proofs.Search.{linear, _&_}
-use Rattle.whole.proofs.Claim.{Seq, _⇒_, _by_, _from_, claim}
-use Rattle.whole.proofs.Cases.{less, same, more, tri}
+use Rattle.whole.proofs.Laws.{E, _⊕_, _⊖_, _⊗_, ⊝_, #, _≦_, _≺_, _≈_, never, Cert, h, sq, dec, _⊞_, _⊠_, _⊡_, linear, _&_, Seq, _⇒_, _by_, _from_, claim, less, same, more, tri}
 
 -- both ends of I are in closed J
 pub record EndsIn (a b c d : ℤ) : Type 0 where

@@ -1,0 +1,2 @@
+-- Document 01 on inclusion, as definitions.
+pub mod Inclusion

@@ -1,0 +1,18 @@
+-- `plane::divisor_of_two` meets its contract: what `magnitude` ensures of both numbers, and `gcd` of those.
+use borrow.Author.Needs.{needs}
+use mathlib.Core.Path.{_∙_, ap, ap₂}
+use lib.IntN.{natAbs}
+use mir.Facts.{toZ-ofZ}
+use Rattle.whole.specs.Divisor.{gcd}
+use Rattle.plane.proofs.divisor_of_two.Statement.{statement}
+use Rattle.plane.proofs.divisor_of_two.Tie as tie
+
+returns : tie.Need-returns
+returns c =
+    let q = c .before in
+    let p = q .before in
+    let f = p .before .fits in
+    c .gcd .ensures ∙ ap₂ gcd (p .magnitude .ensures ∙ ap natAbs (toZ-ofZ (f .x))) (q .magnitude2 .ensures ∙ ap natAbs (toZ-ofZ (f .y)))
+
+pub divisor-of-two-spec : {M : Type 1} → statement M
+divisor-of-two-spec = tie.close (tie.spec (λ c κs. search needs) (λ c κs. search needs) (λ c κs. search needs) returns)

@@ -1,0 +1,28 @@
+-- What the crates above may use of this one: `use Rattle.whole.proofs.Laws.{..}`. proofs/Worked.antt shows how `law` and `claim` are written.
+
+-- identities: `law 2 (λ a b. (a ⊕ b) ⊗ .. ≗ ..) tt`
+pub use Rattle.whole.proofs.Polynomial.{E, con, _⊕_, _⊖_, _⊗_, ⊝_}
+pub use Rattle.whole.proofs.Law.{#, _≗_, law, Ident, by-ring, left-over, term}
+-- claims: `claim 2 (λ a b. a ≺ b ⇒ .. from linear) tt`
+pub use Rattle.whole.proofs.Certificate.{_≦_, _≺_, _≈_, never, Cert, h, num, sq, dec, _⊞_, _⊠_, _⊡_}
+pub use Rattle.whole.proofs.Search.{linear, quadratic, _&_}
+pub use Rattle.whole.proofs.Claim.{Seq, _⇒_, _by_, _from_, claim, Fact, fact, found}
+-- the order
+pub use Rattle.whole.proofs.Order.{gap, nn-mul, ps-mul, nn-sq, lt-of-sub, ≤-of-<, <-or-≥, ≤-by, <-by, ≤-antisym}
+pub use Rattle.whole.proofs.Cases.{Tri, less, same, more, tri, np-np-mul, factor-nn, factor-np, product-ps, zero-product, cancel-pos}
+-- natural numbers, up into ℤ and down again
+pub use Rattle.whole.proofs.Cases.{up≤, up<, down≤, down<, down≡, nat}
+-- what a test says, and when it comes out so
+pub use Rattle.whole.proofs.Test.{lt-true, lt-false, le-true, le-false, true-lt, false-lt, true-le, false-le, both-true, true-both, false-by, true-by}
+-- magnitudes and ranges
+pub use Rattle.whole.proofs.Range.{natAbs-neg, natAbs-zero, near-le, near-neg, near-mul, near-add, near-sub, near-quot, within-le}
+-- machine words: what fits is read back, casts, and what stands for a number
+pub use Rattle.whole.proofs.Machine.{back, near-back, ok-back, back-of, widen-fits, widen-back, narrow-fits, narrow-back, element-16, unsigned-ok}
+pub use Rattle.whole.proofs.Machine.{Stands, stored, literal, unsigned, mul-ok, add-ok, sub-ok, mul-stands, add-stands, sub-stands}
+-- greatest common divisors
+pub use Rattle.whole.proofs.Divisor.{gcd-divides-left, gcd-divides-right, gcd-greatest, quot-exact, gcd4-divides, gcd4-greatest, gcd4-zero, gcd4-times}
+pub use Rattle.whole.proofs.Divisor.{Times, Times4, divided-times, up4, down4, one4, reduced, reduced-only}
+-- the first number that passes a test: a loop that searches, and what its answer says
+pub use Rattle.whole.proofs.First.{Standing, begins, misses, hits, ends, Found, first-found, first-none, found-first, none-first, first-same}
+-- "0 passes, else the number decides"
+pub use Rattle.whole.proofs.Refusal.{passed, decided}
