@@ -1,9 +1,10 @@
 -- The three systems that are built in, "(F ; W)", with document 01's numbers and signs.
 use mathlib.Core.List.{List, [], _∷_, _++_}
-use Prim.Native.Nat.{ℕ, zero, suc, _-_}
-use lib.ListN.{length, replicate}
+use Prim.Native.Nat.{ℕ, zero, suc, _+_, _*_, _-_}
+use lib.ListN.{getD, set, length, replicate}
 use lib.IntN.{ℤ, pos, negsuc}
-use Rattle.digits.specs.declared.System.{System}
+use Rattle.whole.specs.Range.{at}
+use Rattle.digits.specs.Types.{System}
 
 -- −n, so that the tables read as they are printed
 abbrev pub minus : ℕ → ℤ
@@ -48,3 +49,15 @@ filled l = l ++ replicate (128 - length l) (pos 0)
 
 unfoldable pub systemOf : List (List ℤ) → System
 systemOf rs = record { count = length rs; rows = filled (joined rs) }
+
+-- ---- how a table is laid out, row after row
+
+-- the first j numbers of a row written from a place on
+unfoldable pub putRow : List ℤ → ℕ → List ℤ → ℕ → List ℤ
+putRow rows p row zero = rows
+putRow rows p row (suc j) = set (putRow rows p row j) (p + j) (at row j)
+
+-- the first a rows of a table, one behind the other, and 0 in the places that are left
+unfoldable pub putRows : List (List ℤ) → ℕ → List ℤ
+putRows table zero = replicate 128 (pos 0)
+putRows table (suc a) = putRow (putRows table a) (8 * a) (getD table a []) 8

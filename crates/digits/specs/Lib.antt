@@ -1,6 +1,4 @@
--- Document 01, "A digit system", and its refusals 3 and 6 to 10, as definitions.
-pub mod First
+-- Document 01, "A digit system", as definitions: its numbers, and the three systems that are built in.
+pub mod Types
 pub mod System
-pub mod Admission
-pub mod Admitted
 pub mod BuiltIn

@@ -1,31 +1,50 @@
 -- A digit system: "Digit a has a transformation F and an interval W, written as one row of eight numbers: F as a b c d, then W as x0 x1 y0 y1."
--- Its rows stand one behind the other in one list of 16 x 8 numbers.
+-- The rows stand one behind the other in one list of 16 x 8 numbers. Only this crate knows that: all others ask for a digit's `transformation` and `interval`.
+use mathlib.Core.Path.{_≡_}
 use mathlib.Core.List.{List, [], _∷_}
-use Prim.Native.Nat.{ℕ, zero, suc, _+_, _*_, _≤_}
-use lib.ListN.{getD, set, length, replicate}
-use lib.IntN.{ℤ, pos}
+use Prim.Native.Nat.{ℕ, _+_, _*_, _≤_, _<_}
+use lib.ListN.{length}
+use lib.IntN.{ℤ}
 use Rattle.whole.specs.Range.{at}
+use Rattle.digits.specs.Types.{System}
 
--- the rows of n digits are there, if a system can have as many
-pub record Rows (n : ℕ) (rows : List ℤ) : Type 0 where
-  pub there : n ≤ 16 → 8 * n ≤ length rows
+-- ---- the numbers of a digit
 
 -- four numbers of a list, from a place on
 unfoldable pub fourAt : List ℤ → ℕ → List ℤ
 fourAt rows p = at rows p ∷ at rows (p + 1) ∷ at rows (p + 2) ∷ at rows (p + 3) ∷ []
 
-abbrev pub transformationOf : List ℤ → ℕ → List ℤ
-transformationOf rows a = fourAt rows (8 * a)
+unfoldable pub transformationAt : List ℤ → ℕ → List ℤ
+unfolding fourAt
+transformationAt rows a = fourAt rows (8 * a)
 
-abbrev pub intervalOf : List ℤ → ℕ → List ℤ
-intervalOf rows a = fourAt rows (8 * a + 4)
+unfoldable pub intervalAt : List ℤ → ℕ → List ℤ
+unfolding fourAt
+intervalAt rows a = fourAt rows (8 * a + 4)
 
--- the first j numbers of a row written from a place on
-unfoldable pub putRow : List ℤ → ℕ → List ℤ → ℕ → List ℤ
-putRow rows p row zero = rows
-putRow rows p row (suc j) = set (putRow rows p row j) (p + j) (at row j)
+-- "Digit a has a transformation F and an interval W"
+abbrev pub transformation : System → ℕ → List ℤ
+transformation s a = transformationAt (s .rows) a
 
--- the first a rows of a table, one behind the other, and 0 in the places that are left
-unfoldable pub putRows : List (List ℤ) → ℕ → List ℤ
-putRows table zero = replicate 128 (pos 0)
-putRows table (suc a) = putRow (putRows table a) (8 * a) (getD table a []) 8
+abbrev pub interval : System → ℕ → List ℤ
+interval s a = intervalAt (s .rows) a
+
+-- a system whose numbers are lent is a system too
+abbrev pub lent : ℕ → List ℤ → System
+lent n rows = record { count = n; rows = rows }
+
+-- ---- which numbers are there, and which matter
+
+-- the numbers of digit a are there
+pub record DigitThere (rows : List ℤ) (a : ℕ) : Type 0 where
+  pub there : 8 * a + 8 ≤ length rows
+
+-- the numbers of a system's digits are there, if a system can have as many
+pub record Stored (s : System) : Type 0 where
+  pub there : s .count ≤ 16 → 8 * s .count ≤ length (s .rows)
+
+-- "what is kept for the digits a system hasn't got .. no answer depends on it": the same digits, if a system can have as many, whatever stands behind them
+pub record SameDigits (s t : System) : Type 0 where
+  pub count : s .count ≡ t .count
+  pub transformations : s .count ≤ 16 → (a : ℕ) → a < s .count → transformation s a ≡ transformation t a
+  pub intervals : s .count ≤ 16 → (a : ℕ) → a < s .count → interval s a ≡ interval t a

@@ -1,28 +1,15 @@
 -- `digits::number_at` meets its contract: an i64 holds every i16.
 use borrow.Author.Needs.{needs}
-use mathlib.Core.Path.{_∙_}
 use denote.Ref.{now}
 use mir.Syntax.{w16}
 use mir.Val.{SFits}
-use mir.Facts.{toZ-ofZ, sfits-widen}
 use Rattle.whole.specs.Range.{at}
+use Rattle.whole.proofs.Laws.{element-16, widen-fits, widen-back}
 use Rattle.digits.proofs.number_at.Statement.{statement}
 use Rattle.digits.proofs.number_at.Tie as tie
 
-mul-result : tie.Need-mul-result
-mul-result c = search needs
-
-shared-slice-copy-out-result : tie.Need-shared-slice-copy-out-result
-shared-slice-copy-out-result c = search needs
-
 fits : (c : tie.After-result) → SFits w16 (at (now (c .before .args .rows)) (c .before .args .p))
-fits c = record { sfits = c .result .given }
-
-cast-result : tie.Need-cast-result
-cast-result c = simp (toZ-ofZ (fits c)) (sfits-widen tt (fits c))
-
-returns : tie.Need-returns
-returns c = toZ-ofZ (cast-result c) ∙ toZ-ofZ (fits c)
+fits c = element-16 _ (c .result .given)
 
 pub number-at-spec : {M : Type 1} → statement M
-number-at-spec = tie.close (tie.spec mul-result shared-slice-copy-out-result cast-result returns)
+number-at-spec = tie.close (tie.spec (λ c. search needs) (λ c. search needs) (λ c. widen-fits (fits c)) (λ c. widen-back (fits c)))

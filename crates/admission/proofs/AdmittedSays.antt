@@ -1,0 +1,142 @@
+-- The judgement of a whole system says what document 01 says: "Admitted if every number lies in −100..100, det F > 0, det W < 0, the four numbers of F have
+-- greatest common divisor 1, so have the two numbers of each end, and every point lies in the closed interval of some digit"; and each number of refusal is "given
+-- exactly when" its line of the table holds, in the order "a system has 0 or more than 16 digits" (3), then "row by row 6, 7, 8, 9; then 10".
+--
+-- `admitted-only` takes a sentence and finds how the count, the search for the first row that is refused and the cover come out. The row that the search finds has its own
+-- answer (`row-says`), behind rows that are all digits; where it finds none, all rows are digits, and the cover theorem says what the cover test means. So one of the
+-- sentences always holds, and the answer that is given is its answer (`admitted-says`). Both together are `admitted-exactly`.
+use mathlib.Core.Path.{_≡_, refl, sym, _∙_, ap, subst}
+use mathlib.Core.Bool.{Bool, true, false, cond, false≢true}
+use mathlib.Core.Logic.{_⊎_, inl, inr, _↔_}
+use mathlib.Core.Option.{Option, none, some}
+use Prim.Native.Nat.{ℕ, _-_, _≤_, _<_}
+use native.Mathlib.Nat.{eq-zero-or-pos}
+use native.Mathlib.Omega.{arith}
+use borrow.Author.Tests.{le-leb, lt-leb}
+use Rattle.whole.specs.First.{first}
+use Rattle.whole.proofs.Laws.{first-found, first-none, found-first, none-first}
+use Rattle.digits.specs.Types.{System}
+use Rattle.digits.specs.System.{interval, transformation}
+use Rattle.admission.specs.Types.{Admission, Admitted, WrongCount, OutOfRange, NotAbove, NotBelow, NotLowest, Uncovered}
+use Rattle.admission.specs.Admission.{refused?, verdictOfRow, covered?, firstVerdict, rowsVerdict, admissionOf}
+use Rattle.admission.specs.Admitted.{DigitAt, Digits, RowCase, FirstRow, SystemCase}
+use Rattle.admission.proofs.Numbers.{not-refused}
+use Rattle.admission.proofs.RowSays.{row-says, row-only}
+use Rattle.admission.proofs.CoverSays.{digits-cover, one-digit-not-admissible}
+
+-- ---- rows that are not refused are digits
+
+abbrev refusedAt : System → ℕ → Bool
+refusedAt s a = refused? (verdictOfRow s a)
+
+pub digit-says : (s : System) (a : ℕ) → refused? (verdictOfRow s a) ≡ false → DigitAt s a
+digit-says s a e =
+    let f = transformation s a in
+    let w = interval s a in
+    subst (RowCase f w) (not-refused (verdictOfRow s a) e) (row-says f w)
+
+says-digit : (s : System) (a : ℕ) → DigitAt s a → refused? (verdictOfRow s a) ≡ false
+says-digit s a d = ap refused? (sym (row-only (transformation s a) (interval s a) Admitted d))
+
+-- ---- where a sentence holds, its answer is given
+
+-- the count is wrong, and the count is right
+pub wrong-count : (s : System) → (s .count ≡ 0) ⊎ (16 < s .count) → WrongCount ≡ admissionOf s
+unfolding admissionOf
+wrong-count s (inl e) = rw (lt-leb 1 (s .count) (omega arith))
+wrong-count s (inr h) = rw (le-leb 1 (s .count) (omega arith), lt-leb (s .count) 16 h)
+
+pub counted : (s : System) → 1 ≤ s .count → s .count ≤ 16 → rowsVerdict s ≡ admissionOf s
+unfolding admissionOf
+counted s h k = rw (le-leb 1 (s .count) h, le-leb (s .count) 16 k)
+
+-- the first row that is refused
+first-row : {s : System} (v : Admission) → refused? v ≡ true → FirstRow s v → v ≡ admissionOf s
+unfolding rowsVerdict
+first-row {s} v e f =
+    let p = row-only (transformation s (f .row)) (interval s (f .row)) v (f .says) in
+    let found = found-first (refusedAt s) (s .count) 0 (f .row) (record {
+      from = omega arith;
+      below = omega (arith, f .below);
+      passes = ap refused? (sym p) ∙ e;
+      before = λ b h k. says-digit s b (f .before b k);
+    }) in
+    p ∙ ap (firstVerdict s) (sym found) ∙ counted s (f .some-digits) (f .few-digits)
+
+-- no row is refused, and the cover comes out so
+all-digits : (s : System) {t : Bool} → covered? s ≡ t → 1 ≤ s .count → s .count ≤ 16 → Digits s → cond t Admitted Uncovered ≡ admissionOf s
+unfolding rowsVerdict
+all-digits s e h k d =
+    let none = none-first (refusedAt s) (s .count) 0 (λ a i j. says-digit s a (d a (omega arith))) in
+    ap (λ (t : Bool). cond t Admitted Uncovered) (sym e) ∙ ap (firstVerdict s) (sym none) ∙ counted s h k
+
+pub admitted-only : (s : System) (v : Admission) → SystemCase s v → v ≡ admissionOf s
+admitted-only s Admitted c = let says = digits-cover s (c .some-digits) (c .digits) in all-digits s (says .full .1 (c .cover)) (c .some-digits) (c .few-digits) (c .digits)
+admitted-only s WrongCount c = wrong-count s c
+admitted-only s OutOfRange c = first-row OutOfRange refl c
+admitted-only s NotAbove c = first-row NotAbove refl c
+admitted-only s NotBelow c = first-row NotBelow refl c
+admitted-only s NotLowest c = first-row NotLowest refl c
+admitted-only s Uncovered c =
+    let says = digits-cover s (c .some-digits) (c .digits) in
+    all-digits s (says .gap .1 (c .z, c .point, c .in-none)) (c .some-digits) (c .few-digits) (c .digits)
+
+-- ---- and some sentence holds
+
+-- the answer about a row that is refused is the answer about the system
+refused-first : {s : System} (v : Admission) → refused? v ≡ true → FirstRow s v → SystemCase s v
+refused-first Admitted e f = absurd (false≢true e)
+refused-first WrongCount e f = absurd (f .says)
+refused-first OutOfRange e f = f
+refused-first NotAbove e f = f
+refused-first NotBelow e f = f
+refused-first NotLowest e f = f
+refused-first Uncovered e f = absurd (f .says)
+
+module _ (s : System) (h : 1 ≤ s .count) (k : s .count ≤ 16) where
+  by-cover : (t : Bool) → covered? s ≡ t → Digits s → (v : Admission) × SystemCase s v
+  by-cover true e d = (Admitted, record { some-digits = h; few-digits = k; digits = d; cover = digits-cover s h d .full .0 e })
+  by-cover false e d =
+      let u = digits-cover s h d .gap .0 e in
+      (Uncovered, record { some-digits = h; few-digits = k; digits = d; z = u .0; point = u .1; in-none = u .2 })
+
+  by-first : (o : Option ℕ) → first (refusedAt s) (s .count) 0 ≡ o → (v : Admission) × SystemCase s v
+  by-first none e = by-cover (covered? s) refl (λ a l. digit-says s a (first-none (refusedAt s) (s .count) 0 e a (omega arith) (omega arith)))
+  by-first (some a) e =
+      let f = first-found (refusedAt s) (s .count) 0 a e in (
+        verdictOfRow s a,
+        refused-first (verdictOfRow s a) (f .passes) (record {
+          some-digits = h;
+          few-digits = k;
+          row = a;
+          below = omega (arith, f .below);
+          before = λ b l. digit-says s b (f .before b (omega arith) l);
+          says = row-says (transformation s a) (interval s a);
+        }),
+      )
+
+some-case : (s : System) → (v : Admission) × SystemCase s v
+some-case s = elim (eq-zero-or-pos (s .count)) [
+  | inl e ↦ (WrongCount, inl e)
+  | inr h ↦ elim (eq-zero-or-pos (s .count - 16)) [
+    | inl e ↦ by-first s h (omega arith) (first (refusedAt s) (s .count) 0) refl
+    | inr l ↦ (WrongCount, inr (omega arith))
+  ]
+]
+
+pub admitted-says : (s : System) → SystemCase s (admissionOf s)
+admitted-says s = let c = some-case s in subst (SystemCase s) (admitted-only s (c .0) (c .1)) (c .1)
+
+pub admitted-exactly : (s : System) (v : Admission) → (admissionOf s ≡ v) ↔ SystemCase s v
+admitted-exactly s v = (λ e. subst (SystemCase s) e (admitted-says s), λ c. sym (admitted-only s v c))
+
+-- ---- what an admitted system grants
+
+pub admitted-few : (s : System) → admissionOf s ≡ Admitted → s .count ≤ 16
+admitted-few s e = admitted-exactly s Admitted .0 e .few-digits
+
+pub admitted-digits : (s : System) → admissionOf s ≡ Admitted → Digits s
+admitted-digits s e = admitted-exactly s Admitted .0 e .digits
+
+pub one-digit-refused : (s : System) → s .count ≡ 1 → admissionOf s ≡ Admitted → ⊥
+one-digit-refused s one e = one-digit-not-admissible s one (admitted-exactly s Admitted .0 e)

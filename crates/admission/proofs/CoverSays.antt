@@ -1,0 +1,51 @@
+-- Document 01's last demand on an admitted system, "every point lies in the closed interval of some digit", and refusal 10, "some point is in no closed interval":
+-- the test `covered?` says exactly this. It looks at right ends only: behind each, another interval has to go on, which holds that end and does not end there too.
+-- (A system with no digits passes it, so there has to be one: refusal 3 comes before.)
+-- `covered` (CoverFull.antt) shows that then no point is left out; `uncovered` (CoverGap.antt) hands over a point that is left out if the test fails.
+use mathlib.Core.Path.{_≡_, subst}
+use mathlib.Core.Bool.{true, false}
+use mathlib.Core.Logic.{_↔_}
+use Prim.Native.Nat.{ℕ, _≤_}
+use native.Mathlib.Omega.{arith}
+use Rattle.whole.proofs.Laws.{true-by, false-by}
+use Rattle.plane.specs.Plane.{Pair, Point, right}
+use Rattle.plane.proofs.Laws.{det-self}
+use Rattle.digits.specs.Types.{System}
+use Rattle.digits.specs.System.{interval}
+use Rattle.admission.specs.Admission.{Small, covered?}
+use Rattle.admission.specs.Admitted.{Digits, Covers, Admissible}
+use Rattle.admission.proofs.CoverTests.{GoesOn, Intervals, NextDigit, gap-free}
+use Rattle.admission.proofs.CoverFull.{covered}
+use Rattle.admission.proofs.CoverGap.{uncovered}
+
+-- what the test answers, and the sentence that it stands for
+pub record CoverSays (s : System) : Type 0 where
+  pub full : covered? s ≡ true ↔ ((z : Pair) → Point z → Covers s z)
+  pub gap : covered? s ≡ false ↔ ((z : Pair) × Point z × (Covers s z → ⊥))
+
+pub cover-says : (s : System) → 1 ≤ s .count → Small s → Intervals s → CoverSays s
+cover-says s some-digit small intervals = record {
+  full = (covered s some-digit intervals, λ f. true-by (covered? s) (λ e. let u = uncovered s small intervals e in u .2 (f (u .0) (u .1))));
+  gap = (uncovered s small intervals, λ u. false-by (covered? s) (λ e. u .2 (covered s some-digit intervals e (u .0) (u .1))));
+}
+
+-- where every row is a digit, the numbers are small, and so the test says so
+pub small : (s : System) → Digits s → Small s
+small s d = record { small = λ a h. d a h .in-range .numbers-w }
+
+pub digits-cover : (s : System) → 1 ≤ s .count → Digits s → CoverSays s
+digits-cover s some-digit d = cover-says s some-digit (small s d) (λ a h. d a h .interval)
+
+-- One digit never covers: the only interval that could go on behind its right end ends there too.
+one-digit : (s : System) → s .count ≡ 1 → covered? s ≡ false
+one-digit s one = false-by (covered? s) (λ e. alone (gap-free s e 0 (omega arith)))
+  where
+    alone : NextDigit s 0 → ⊥
+    alone d =
+        let itself : d .next ≡ 0 = omega (arith, d .below) in
+        subst (λ (b : ℕ). GoesOn (interval s 0) (interval s b)) itself (d .goes) .further (det-self (right (interval s 0)))
+
+pub one-digit-not-admissible : (s : System) → s .count ≡ 1 → Admissible s → ⊥
+one-digit-not-admissible s one d =
+    let u = digits-cover s (d .some-digits) (d .digits) .gap .0 (one-digit s one) in
+    u .2 (d .cover (u .0) (u .1))

@@ -1,0 +1,30 @@
+-- Document 01's numbers of refusal: which there are, and that only "admitted" has 0.
+use mathlib.Core.Path.{_≡_, refl}
+use mathlib.Core.Bool.{false}
+use mathlib.Core.Logic.{_⊎_, inl, inr}
+use native.Mathlib.Omega.{arith}
+use borrow.Author.Tests.{not-false, eqb-true}
+use lib.Dec.{eqb}
+use Rattle.admission.specs.Types.{Admission, Admitted, WrongCount, OutOfRange, NotAbove, NotBelow, NotLowest, Uncovered}
+use Rattle.admission.specs.Admission.{refusalNumber, refused?, SystemNumber}
+
+pub number-0 : (v : Admission) → refusalNumber v ≡ 0 → v ≡ Admitted
+number-0 Admitted e = refl
+number-0 WrongCount e = absurd (omega arith)
+number-0 OutOfRange e = absurd (omega arith)
+number-0 NotAbove e = absurd (omega arith)
+number-0 NotBelow e = absurd (omega arith)
+number-0 NotLowest e = absurd (omega arith)
+number-0 Uncovered e = absurd (omega arith)
+
+pub not-refused : (v : Admission) → refused? v ≡ false → v ≡ Admitted
+not-refused v e = number-0 v (eqb-true (refusalNumber v) 0 (not-false (eqb (refusalNumber v) 0) e))
+
+pub admission-number : (v : Admission) → (refusalNumber v ≡ 0) ⊎ SystemNumber (refusalNumber v)
+admission-number Admitted = inl refl
+admission-number WrongCount = inr (inl refl)
+admission-number OutOfRange = inr (inr (omega arith, omega arith))
+admission-number NotAbove = inr (inr (omega arith, omega arith))
+admission-number NotBelow = inr (inr (omega arith, omega arith))
+admission-number NotLowest = inr (inr (omega arith, omega arith))
+admission-number Uncovered = inr (inr (omega arith, omega arith))

@@ -1,0 +1,12 @@
+-- `admission::admit` meets its contract: the judgement of its rows, which are 128 numbers.
+use borrow.Author.Needs.{needs}
+use mathlib.Core.Path.{sym}
+use Rattle.digits.proofs.Laws.{stored-128}
+use Rattle.admission.proofs.admit.Statement.{statement}
+use Rattle.admission.proofs.admit.Tie as tie
+
+slice-aggregate-admission-of : tie.Need-slice-aggregate-admission-of
+slice-aggregate-admission-of c = search needs
+
+pub admit-spec : {M : Type 1} → statement M
+admit-spec = tie.close (tie.spec slice-aggregate-admission-of (λ c κs. stored-128 (sym (slice-aggregate-admission-of c))) (λ c. search needs))

@@ -1,0 +1,81 @@
+-- The judgement of a digit system, as a computation: "System: row by row 6, 7, 8, 9; then 10", behind 3 for the count. The theorem `admitted-exactly`
+-- (proofs/AdmittedSays.antt) proves that each answer is given exactly when document 01's sentence holds, as specs/Admitted.antt states it.
+use mathlib.Core.Path.{_≡_}
+use mathlib.Core.Bool.{Bool, not, cond, _&&_}
+use mathlib.Core.List.{List}
+use mathlib.Core.Logic.{_⊎_}
+use mathlib.Core.Option.{Option, none, some}
+use Prim.Native.Nat.{ℕ, _<_, _≤_}
+use lib.Dec.{leb, eqb}
+use lib.IntN.{ℤ, pos, natAbs}
+use lib.Signed.{ltZ}
+use Rattle.whole.specs.Range.{at, Within}
+use Rattle.whole.specs.Divisor.{gcd}
+use Rattle.whole.specs.First.{first, found?}
+use Rattle.plane.specs.Plane.{right, determinantOf}
+use Rattle.inclusion.specs.Inclusion.{closed?, same?}
+use Rattle.plane.specs.Tests.{within?, lowest?}
+use Rattle.digits.specs.Types.{System}
+use Rattle.digits.specs.System.{transformation, interval}
+use Rattle.admission.specs.Types.{Admission, Admitted, WrongCount, OutOfRange, NotAbove, NotBelow, NotLowest, Uncovered}
+
+-- Document 01's number for each answer; 0 where nothing is refused.
+abbrev pub refusalNumber : Admission → ℕ
+refusalNumber Admitted = 0
+refusalNumber WrongCount = 3
+refusalNumber OutOfRange = 6
+refusalNumber NotAbove = 7
+refusalNumber NotBelow = 8
+refusalNumber NotLowest = 9
+refusalNumber Uncovered = 10
+
+-- "3, 6 to 10": the numbers that refuse a system
+abbrev pub SystemNumber : ℕ → Type 0
+SystemNumber n = (n ≡ 3) ⊎ ((6 ≤ n) × (n ≤ 10))
+
+abbrev pub refused? : Admission → Bool
+refused? v = not (eqb (refusalNumber v) 0)
+
+-- both ends of an interval in lowest terms
+abbrev pub lowestEnds? : List ℤ → Bool
+lowestEnds? w = eqb (gcd (natAbs (at w 0)) (natAbs (at w 1))) 1 && eqb (gcd (natAbs (at w 2)) (natAbs (at w 3))) 1
+
+-- "row by row 6, 7, 8, 9": a number out of −100..100, det F ≤ 0, det W ≥ 0, F or an end not in lowest terms
+unfoldable pub rowVerdict : List ℤ → List ℤ → Admission
+rowVerdict f w =
+    cond (within? 100 f && within? 100 w)
+    (cond (ltZ (pos 0) (determinantOf f))
+    (cond (ltZ (determinantOf w) (pos 0))
+    (cond (lowest? f && lowestEnds? w) Admitted NotLowest)
+    NotBelow)
+    NotAbove)
+    OutOfRange
+
+abbrev pub verdictOfRow : System → ℕ → Admission
+verdictOfRow s a = rowVerdict (transformation s a) (interval s a)
+
+-- "then 10": the intervals leave no gap. Behind the right end of each goes on another, which holds that end and does not end there too.
+abbrev pub goesOnBehind? : List ℤ → List ℤ → Bool
+goesOnBehind? v w = closed? w (right v) && not (same? (right v) (right w))
+
+abbrev pub someGoesOn? : System → List ℤ → Bool
+someGoesOn? s v = found? (first (λ b. goesOnBehind? v (interval s b)) (s .count) 0)
+
+abbrev pub covered? : System → Bool
+covered? s = not (found? (first (λ a. not (someGoesOn? s (interval s a))) (s .count) 0))
+
+-- what the cover test needs of the numbers, so that no determinant leaves 64 bits
+pub record Small (s : System) : Type 0 where
+  pub small : (a : ℕ) → a < s .count → Within 100 (interval s a)
+
+-- the first row that is refused decides; where none is, the cover does
+abbrev pub firstVerdict : System → Option ℕ → Admission
+firstVerdict s none = cond (covered? s) Admitted Uncovered
+firstVerdict s (some a) = verdictOfRow s a
+
+unfoldable pub rowsVerdict : System → Admission
+rowsVerdict s = firstVerdict s (first (λ a. refused? (verdictOfRow s a)) (s .count) 0)
+
+-- "3: a system has 0 or more than 16 digits"; the rows are judged after that
+unfoldable pub admissionOf : System → Admission
+admissionOf s = cond (leb 1 (s .count) && leb (s .count) 16) (rowsVerdict s) WrongCount
