@@ -5,14 +5,13 @@ use mathlib.Core.Bool.{Bool}
 use mathlib.Core.List.{List}
 use Prim.Native.Nat.{ℕ}
 use lib.IntN.{ℤ}
-use Rattle.digits.specs.declared.System.{System}
-use Rattle.unary.specs.declared.State.{State}
-use Rattle.unary.specs.declared.Start.{Start}
-use Rattle.unary.specs.declared.Opening.{Opening}
-use Rattle.unary.specs.declared.Answer.{Answer}
-use Rattle.unary.specs.State.{state?, openOf, OpeningCase}
+use Rattle.digits.specs.Types.{System}
+use Rattle.steps.specs.Types.{State}
+use Rattle.unary.specs.Types.{Opening, Start, Answer}
+use Rattle.unary.specs.Opening.{openOf, OpeningCase}
+use Rattle.unary.specs.Judging.{state?}
 use Rattle.unary.specs.Run.{runOf}
-use Rattle.unary.proofs.Keeps.{opens}
+use Rattle.unary.proofs.OpeningSays.{opens}
 
 pub one-opening : (m : List ℤ) (r r′ : Start) → r ≡ openOf m → r′ ≡ openOf m → r ≡ r′
 one-opening m r r′ p q = p ∙ sym q

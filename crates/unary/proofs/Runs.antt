@@ -1,86 +1,122 @@
--- A run as the list of its steps: `Runs y inp s i out o r` says that a run from state s, with i bytes of the input taken and o digits written, leaves r, one
--- constructor for each kind of step. `runs` proves that what `runBy` works out with `left` + 1 steps granted is so made, and `run-only` that nothing else is; every
--- theorem on runs is then an induction over the steps, in which no count of steps granted occurs.
+-- What every answer of a run keeps to, whatever was handed in: the theory of runs (crates/runs), of the steps of crates/steps, judged first.
+-- `in-range`: every number of it lies in its stated range: the bytes taken are at most those that were there, the digits written at most the room; every byte written
+-- is a digit of the output system; the output is as long as before; the end is 0, 20, 21, 22 or a refusal's number; the state keeps the rules for a state, unless it
+-- was refused. `written-only`: "Bytes of the output beyond the written ones are unchanged." `few-steps`: a run makes at most 2·taken + written + 1 steps, and one more
+-- where a digit was held at the start. (Without the one more it is false: a run that absorbs a held digit and then finds no byte makes 2 steps, takes nothing and
+-- writes nothing.)
 use mathlib.Core.Path.{_≡_, refl, sym, ap, subst, _∙_}
 use mathlib.Core.List.{List}
-use Prim.Native.Nat.{ℕ, zero, suc, _+_}
+use mathlib.Core.Logic.{_⊎_, inl, inr}
+use Prim.Native.Nat.{ℕ, zero, suc, _+_, _*_, _≤_, _<_}
 use native.Mathlib.Omega.{arith}
-use lib.ListN.{set}
-use Rattle.unary.specs.declared.State.{State}
-use Rattle.unary.specs.declared.Stop.{Stop}
-use Rattle.unary.specs.declared.Kind.{Kind}
-use Rattle.unary.specs.declared.Kind.the-variants.{Load, Give, Absorb, Halt}
-use Rattle.unary.specs.declared.Move.{Move}
-use Rattle.unary.specs.Step.{Systems, move, halt}
-use Rattle.unary.specs.Run.{Ran, stopped, moveAt, runBy, left, stepsOf}
-use Rattle.unary.proofs.Moves.{Onward, on-load, on-give, on-absorb, on-halt}
+use lib.ListN.{length, getD, drop, List·getD-append}
+use Rattle.digits.specs.Types.{System}
+use Rattle.admission.proofs.Laws.{admitted-digits}
+use Rattle.runs.specs.Supply.{Supply, nothing, spend, Pays, cost}
+use Rattle.runs.specs.Machine.{Halting}
+use Rattle.runs.specs.Run.{Course, stopped, run}
+use Rattle.runs.proofs.Laws.{within, nothing-pays, behind-unchanged, length-written, runs, paid, keeps, last-step, either, accepted-run, refused-run}
+use Rattle.runs.proofs.Laws as every
+use Rattle.steps.specs.Types.{Nothing, State, Stop, Refused}
+use Rattle.steps.specs.State.{StateRules, heldCount, endNumber}
+use Rattle.steps.specs.Step.{Setting, setting, plain, oneWord}
+use Rattle.steps.proofs.Laws.{lawful, StepEnd, step-stops, Below, below-at, Kept, step-keeps}
+use Rattle.unary.specs.Judging.{refusalOf}
+use Rattle.unary.specs.Run.{Ran, courseOf, leaves, runOf, stepsOf, runSteps}
+use Rattle.unary.proofs.Judging.{accepted, RefusalNumber, refusal-number}
 
-pub data Runs (y : Systems) (inp : List ℕ) : State → ℕ → List ℕ → ℕ → Ran → Type 0 where
-  halts : {s : State} {i : ℕ} {out : List ℕ} {o : ℕ} (e : Stop) → moveAt y inp s i out o ≡ halt e s → Runs y inp s i out o (stopped e s i out o)
-  loads : {s t : State} {i : ℕ} {out : List ℕ} {o : ℕ} {r : Ran} →
-      moveAt y inp s i out o ≡ move Load t → Runs y inp t (i + 1) out o r → Runs y inp s i out o r
-  gives : {s t : State} {i : ℕ} {out : List ℕ} {o : ℕ} {r : Ran} (b : ℕ) →
-      moveAt y inp s i out o ≡ move (Give b) t → Runs y inp t i (set out o b) (o + 1) r → Runs y inp s i out o r
-  absorbs : {s t : State} {i : ℕ} {out : List ℕ} {o : ℕ} {r : Ran} →
-      moveAt y inp s i out o ≡ move Absorb t → Runs y inp t i out o r → Runs y inp s i out o r
+-- ---- a run that is not refused keeps the rules for a state, so the state that it hands back is never refused by the next
 
--- where a run goes on from another place, what it leaves is what the rest leaves
-leaves : {y : Systems} {inp : List ℕ} {s : State} {i : ℕ} {out : List ℕ} {o : ℕ} {t : State} {j : ℕ} {new : List ℕ} {p : ℕ} {r : Ran} → Onward y inp s i out o t j new p →
-    r ≡ runBy y inp (suc (left inp t j new p)) t j new p → r ≡ runBy y inp (suc (left inp s i out o)) s i out o
-leaves f e = e ∙ sym (f .rest)
+run-keeps : (y : Setting) (s : State) (r : Supply) → refusalOf y s ≡ 0 → Kept y (run (plain y) s r .did) (run (plain y) s r .state)
+run-keeps y s r e =
+    let a = accepted y s .0 e in
+    keeps (lawful y) (Kept y) (step-keeps y (admitted-digits (y .input) (a .input)) (admitted-digits (y .output) (a .output))) (runs (lawful y) s r) nothing
+    (record { digits = tt; state = a .state })
 
-pub run-only : {y : Systems} {inp : List ℕ} {s : State} {i : ℕ} {out : List ℕ} {o : ℕ} {r : Ran} → Runs y inp s i out o r →
-    r ≡ runBy y inp (suc (left inp s i out o)) s i out o
-run-only {y} {inp} {s} {i} {out} {o} (halts e q) = sym (on-halt y inp s i out o (halt e s) (sym q) e refl .0)
-run-only {y} {inp} {s} {i} {out} {o} (loads {t = t} q rest) = leaves (on-load y inp s i out o (move Load t) (sym q) refl .1) (run-only rest)
-run-only {y} {inp} {s} {i} {out} {o} (gives {t = t} b q rest) = leaves (on-give y inp s i out o (move (Give b) t) (sym q) b refl .1) (run-only rest)
-run-only {y} {inp} {s} {i} {out} {o} (absorbs {t = t} q rest) = leaves (on-absorb y inp s i out o (move Absorb t) (sym q) refl) (run-only rest)
+pub accepted-again : (y : Setting) (s : State) (r : Supply) → refusalOf y s ≡ 0 → refusalOf y (run (plain y) s r .state) ≡ 0
+accepted-again y s r e =
+    let a = accepted y s .0 e in
+    accepted y (run (plain y) s r .state) .1 (record { input = a .input; output = a .output; state = run-keeps y s r e .state })
 
--- a move is its kind and its state
-pub move-is : (m : Move) (k : Kind) → m .kind ≡ k → m ≡ move k (m .state)
-move-is m k e = λ i. record { kind = e i; state = m .state }
+-- ---- of any run: refused or not
 
--- the other way: by the first step's kind, and then by the steps that are left
-module _ (y : Systems) (inp : List ℕ) where
-  AsMade : State → ℕ → List ℕ → ℕ → Type 0
-  AsMade s i out o = Runs y inp s i out o (runBy y inp (suc (left inp s i out o)) s i out o)
+-- what a run did could be done, its digits are digits, and so on
+pub record CourseInRange (a b : System) (s : State) (input : List ℕ) (room : ℕ) (q : Course State Stop) : Type 0 where
+  pub pays : Pays (q .did) (oneWord input room)
+  pub digits : Below (b .count) (q .did .digits)
+  pub state : refusalOf (setting a b) s ≡ 0 → StateRules (a .count) (q .state)
+  pub stop : StepEnd (q .stop) ⊎ RefusalNumber (endNumber (q .stop))
+  pub steps : q .steps + 2 * length (q .did .y) ≤ cost (q .did) + heldCount (s .held)
 
-  by-kind : (s : State) (i : ℕ) (out : List ℕ) (o : ℕ) →
-      ((t : State) (j : ℕ) (new : List ℕ) (p : ℕ) → left inp s i out o ≡ suc (left inp t j new p) → AsMade t j new p) →
-      (k : Kind) → moveAt y inp s i out o .kind ≡ k → AsMade s i out o
-  unfolding AsMade
-  by-kind s i out o more Load e =
-      let m = moveAt y inp s i out o in
-      let f = on-load y inp s i out o m refl e .1 in
-      subst (Runs y inp s i out o) (sym (f .rest)) (loads (move-is m Load e) (more (m .state) (i + 1) out o (f .falls)))
-  by-kind s i out o more (Give b) e =
-      let m = moveAt y inp s i out o in
-      let f = on-give y inp s i out o m refl b e .1 in
-      subst (Runs y inp s i out o) (sym (f .rest)) (gives b (move-is m (Give b) e) (more (m .state) i (set out o b) (o + 1) (f .falls)))
-  by-kind s i out o more Absorb e =
-      let m = moveAt y inp s i out o in
-      let f = on-absorb y inp s i out o m refl e in
-      subst (Runs y inp s i out o) (sym (f .rest)) (absorbs (move-is m Absorb e) (more (m .state) i out o (f .falls)))
-  by-kind s i out o more (Halt e) q =
-      let m = moveAt y inp s i out o in
-      let f = on-halt y inp s i out o m refl e q in
-      subst (Runs y inp s i out o) (sym (f .0 ∙ ap (λ (t : State). stopped e t i out o) (f .1)))
-      (halts e (move-is m (Halt e) q ∙ ap (move (Halt e)) (f .1)))
+module _ (a b : System) (s : State) (input : List ℕ) where
+  pub course-in-range : (room : ℕ) → CourseInRange a b s input room (courseOf a b s input room)
+  unfolding courseOf
+  course-in-range room = either (plain y) Refused (refusalOf y) s r (CourseInRange a b s input room)
+      (λ e. let g = runs (lawful y) s r in record {
+        pays = paid (lawful y) g;
+        digits = run-keeps y s r e .digits;
+        state = λ z. run-keeps y s r e .state;
+        stop = inl (subst (Halting StepEnd) (last-step (lawful y) g) (step-stops y (run (plain y) s r .state) (spend (run (plain y) s r .did) r)));
+        steps = omega (arith, every.few-steps (lawful y) g, within (paid (lawful y) g) .1);
+      })
+      (λ n e. record { pays = nothing-pays r; digits = tt; state = λ z. absurd (omega (arith, z, e)); stop = inr (by n e (refusal-number y s)); steps = omega arith })
+    where
+      y : Setting
+      y = setting a b
 
-  by-left : (n : ℕ) (s : State) (i : ℕ) (out : List ℕ) (o : ℕ) → left inp s i out o ≡ n → AsMade s i out o
-  by-left zero s i out o q = by-kind s i out o (λ t j new p f. absurd (omega arith)) (moveAt y inp s i out o .kind) refl
-  by-left (suc n) s i out o q = by-kind s i out o (λ t j new p f. by-left n t j new p (omega arith)) (moveAt y inp s i out o .kind) refl
+      r : Supply
+      r = oneWord input room
 
-  pub runs : (s : State) (i : ℕ) (out : List ℕ) (o : ℕ) → Runs y inp s i out o (runBy y inp (suc (left inp s i out o)) s i out o)
-  unfolding AsMade
-  runs s i out o = by-left (left inp s i out o) s i out o refl
+      by : (n : ℕ) → refusalOf y s ≡ suc n → (refusalOf y s ≡ 0) ⊎ RefusalNumber (refusalOf y s) → RefusalNumber (suc n)
+      by n e (inl z) = absurd (omega (arith, z, e))
+      by n e (inr k) = subst RefusalNumber e k
 
--- ---- of a whole run
+pub record AnswerInRange (a b : System) (s : State) (inp out : List ℕ) (r : Ran) : Type 0 where
+  pub taken : r .answer .taken .0 ≤ length inp
+  pub written : r .answer .written .0 ≤ length out
+  pub room : length (r .output) ≡ length out
+  pub digits : (p : ℕ) → p < r .answer .written .0 → getD (r .output) p 0 < b .count
+  pub unwritten : drop (r .answer .written .0) (r .output) ≡ drop (r .answer .written .0) out
+  pub state : refusalOf (setting a b) s ≡ 0 → StateRules (a .count) (r .answer .state)
+  pub stop : StepEnd (r .answer .stop) ⊎ RefusalNumber (endNumber (r .answer .stop))
 
-pub steps-run : (y : Systems) (s : State) (inp out : List ℕ) → Runs y inp s 0 out 0 (stepsOf y s inp out)
-unfolding stepsOf
-steps-run y s inp out = runs y inp s 0 out 0
+module _ (a b : System) (s : State) (inp out : List ℕ) where
+  pub in-range : AnswerInRange a b s inp out (runOf a b s inp out)
+  unfolding runOf
+  in-range =
+      let q = courseOf a b s inp (length out) in
+      let c = course-in-range a b s inp (length out) in
+      record {
+        taken = within (c .pays) .0;
+        written = c .pays .room;
+        room = length-written (q .did .digits) out (c .pays .room);
+        digits = λ p h. rw (List·getD-append (q .did .digits) (drop (length (q .did .digits)) out) 0 p h) (below-at (b .count) (q .did .digits) p (c .digits) h);
+        unwritten = behind-unchanged (q .did .digits) out;
+        state = c .state;
+        stop = c .stop;
+      }
 
-pub steps-only : {y : Systems} {s : State} {inp out : List ℕ} {r : Ran} → Runs y inp s 0 out 0 r → r ≡ stepsOf y s inp out
-unfolding stepsOf
-steps-only g = run-only g
+  -- "Bytes of the output beyond the written ones are unchanged."
+  pub written-only : drop (runOf a b s inp out .answer .written .0) (runOf a b s inp out .output) ≡ drop (runOf a b s inp out .answer .written .0) out
+  written-only = in-range .unwritten
+
+  -- where nothing is refused a run is its steps; and where something is, "it then answers the number, counts 0 and 0, the state as handed in, and an untouched output"
+  pub run-accepted : refusalOf (setting a b) s ≡ 0 → runOf a b s inp out ≡ stepsOf (setting a b) s inp out
+  unfolding runOf courseOf stepsOf
+  run-accepted e = ap (λ (q : Course State Stop). leaves q out) (accepted-run (plain (setting a b)) Refused (refusalOf (setting a b)) s (oneWord inp (length out)) e)
+
+  pub refused-untouched : (refusalOf (setting a b) s ≡ 0 → ⊥) → runOf a b s inp out ≡ leaves (stopped (Refused (refusalOf (setting a b) s)) s) out
+  unfolding runOf courseOf
+  refused-untouched f = by (refusalOf (setting a b) s) refl
+    where
+      by : (n : ℕ) → refusalOf (setting a b) s ≡ n → runOf a b s inp out ≡ leaves (stopped (Refused n) s) out
+      by zero e = absurd (f e)
+      by (suc n) e = ap (λ (q : Course State Stop). leaves q out) (refused-run (plain (setting a b)) Refused (refusalOf (setting a b)) s (oneWord inp (length out)) n e)
+
+  pub few-steps : runSteps a b s inp out ≤ 2 * runOf a b s inp out .answer .taken .0 + runOf a b s inp out .answer .written .0 + 1 + heldCount (s .held)
+  unfolding runOf
+  few-steps = omega (arith, course-in-range a b s inp (length out) .steps)
+
+  -- so of a run that starts with nothing held, 2·taken + written + 1
+  pub few-steps-free : s .held ≡ Nothing → runSteps a b s inp out ≤ 2 * runOf a b s inp out .answer .taken .0 + runOf a b s inp out .answer .written .0 + 1
+  few-steps-free e = omega (arith, few-steps, ap heldCount e)

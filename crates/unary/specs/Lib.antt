@@ -1,5 +1,5 @@
--- Document 01, "The step": the state, opening, the five lines, and a run, as definitions.
-pub mod State
-pub mod Step
+-- Document 01, "The step": opening, what is judged before any step, and a run, as definitions. (The state and the step itself: crates/steps/specs.)
+pub mod Types
+pub mod Opening
+pub mod Judging
 pub mod Run
-pub mod Ready

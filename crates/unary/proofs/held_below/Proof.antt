@@ -1,7 +1,7 @@
 -- `unary::held_below` meets its contract, by the two cases of what is held.
 use borrow.Author.Needs.{needs}
 use mathlib.Core.Path.{sym, ap}
-use Rattle.unary.specs.State.{heldDigit?}
+use Rattle.unary.specs.Judging.{heldDigit?}
 use Rattle.unary.proofs.held_below.Statement.{statement}
 use Rattle.unary.proofs.held_below.Tie as tie
 

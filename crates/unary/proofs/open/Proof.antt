@@ -4,13 +4,13 @@ use mathlib.Core.Path.{_≡_, refl, sym, ap, subst, _∙_}
 use native.Mathlib.Omega.{arith}
 use mathlib.Core.List.{List}
 use lib.IntN.{ℤ}
-use Rattle.whole.proofs.Range.{within-le}
-use Rattle.plane.proofs.Cancelling.{divisor-above}
-use Rattle.unary.specs.declared.Held.the-variants.{Nothing}
-use Rattle.unary.specs.declared.Opening.{Opening}
-use Rattle.unary.specs.declared.Opening.the-variants.{Opens, OutOfRange, NotAbove}
-use Rattle.unary.specs.State.{openingNumber, openingOf, OpeningCase, refusedStart, startOf, openOf}
-use Rattle.unary.proofs.Keeps.{opening-says}
+use Rattle.whole.proofs.Laws.{within-le}
+use Rattle.plane.proofs.Laws.{divisor-above}
+use Rattle.steps.specs.Types.{State}
+use Rattle.steps.specs.State.{opened as openedState}
+use Rattle.unary.specs.Types.{Opening, Opens, OutOfRange, NotAbove}
+use Rattle.unary.specs.Opening.{openingNumber, openingOf, OpeningCase, refusedStart, startOf, openOf}
+use Rattle.unary.proofs.OpeningSays.{opening-says}
 use Rattle.unary.proofs.open.Statement.{statement}
 use Rattle.unary.proofs.open.Tie as tie
 
@@ -28,10 +28,11 @@ refuses m NotAbove f = refl
 returns : tie.Need-returns
 unfolding openOf
 returns c =
-    let n = c .before in
+    let n = c .before .before in
     let v = n .before .opening-of in
     let m = n .before .before .args .m in
-    refuses m (v .result) (λ z. c .if1 .taken (n .opening-number .ensures ∙ z)) ∙ ap (startOf m) (v .ensures)
+    ap (λ (s : State). record { opening = v .result; state = s }) (c .opened .ensures) ∙
+    refuses m (v .result) (λ z. c .before .if1 .taken (n .opening-number .ensures ∙ z)) ∙ ap (startOf m) (v .ensures)
 
 -- it opens
 opened : (c : tie.Else1) → c .before .before .opening-of .result ≡ Opens
@@ -49,8 +50,8 @@ cancel-requires c κs =
 returns-2 : tie.Need-returns-2
 unfolding openOf
 returns-2 c =
-    let e = c .before in
-    (λ i. record { opening = opened e i; state = record { matrix = c .cancel .ensures i; held = Nothing } }) ∙ sym (ap (startOf (e .before .before .before .args .m)) (matrix-opens e))
+    let e = c .before .before in
+    (λ i. record { opening = opened e i; state = (c .opened2 .ensures ∙ ap openedState (c .before .cancel .ensures)) i }) ∙ sym (ap (startOf (e .before .before .before .args .m)) (matrix-opens e))
 
 pub open-spec : {M : Type 1} → statement M
-open-spec = tie.close (tie.spec (λ c κs. search needs) (λ c κs. search needs) returns cancel-requires returns-2)
+open-spec = tie.close (tie.spec (λ c κs. search needs) (λ c κs. search needs) (λ c κs. search needs) returns cancel-requires (λ c κs. search needs) returns-2)

@@ -1,7 +1,7 @@
 -- `unary::run` meets its contract: it lends the rows of its two systems, 128 numbers each.
 use borrow.Author.Needs.{needs}
-use native.Mathlib.Omega.{arith}
-use Rattle.unary.specs.Run.{runOf}
+use mathlib.Core.Path.{sym}
+use Rattle.digits.proofs.Laws.{stored-128}
 use Rattle.unary.proofs.run.Statement.{statement}
 use Rattle.unary.proofs.run.Tie as tie
 
@@ -13,10 +13,9 @@ slice-aggregate-run-lent-2 c = search needs
 
 run-lent-requires : tie.Need-run-lent-requires
 run-lent-requires c κs =
-    (record { there = λ few. omega (arith, slice-aggregate-run-lent (c .before .before)) }, record { there = λ few. omega (arith, slice-aggregate-run-lent-2 (c .before)) })
+    (stored-128 (sym (slice-aggregate-run-lent (c .before .before))), stored-128 (sym (slice-aggregate-run-lent-2 (c .before))))
 
 returns : tie.Need-returns
-unfolding runOf
 returns c = c .before .before .run-lent .ensures
 
 pub run-spec : {M : Type 1} → statement M

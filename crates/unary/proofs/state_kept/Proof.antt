@@ -3,11 +3,9 @@ use borrow.Author.Needs.{needs}
 use borrow.Author.Tests.{not-true, not-false, eq-eqb, ne-eqb}
 use mathlib.Core.Path.{_≡_, sym, _∙_}
 use mathlib.Core.Bool.{true}
-use Rattle.plane.proofs.Words.{above}
-use Rattle.plane.proofs.Ranges.{within-products}
-use Rattle.digits.specs.Admission.{within?}
-use Rattle.digits.proofs.RowSays.{within-says}
-use Rattle.unary.specs.State.{state?}
+use Rattle.plane.specs.Tests.{within?}
+use Rattle.plane.proofs.Laws.{above, within-products, within-says}
+use Rattle.unary.specs.Judging.{state?}
 use Rattle.unary.proofs.state_kept.Statement.{statement}
 use Rattle.unary.proofs.state_kept.Tie as tie
 

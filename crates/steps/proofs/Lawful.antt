@@ -1,0 +1,55 @@
+-- The step goes by plans, so it is lawful and steady (crates/runs): what is to be seen is that a plan pays for the digit that it holds. And why it stops.
+use mathlib.Core.Path.{_≡_, refl}
+use mathlib.Core.Logic.{_⊎_, inl, inr}
+use mathlib.Core.Option.{Option, none, some}
+use Prim.Native.Nat.{ℕ, suc, _+_, _≤_}
+use native.Mathlib.Omega.{arith}
+use lib.Dec.{ltb}
+use Rattle.plane.specs.Plane.{cancelOf}
+use Rattle.plane.specs.Tests.{within?}
+use Rattle.runs.specs.Supply.{Supply, Deed, nothing, cost}
+use Rattle.runs.specs.Machine.{Halting, Lawful, Steady}
+use Rattle.runs.specs.Plan.{Each, EachStop, took-x, gave}
+use Rattle.runs.proofs.Laws.{Always, each-test, follow-halts, stop-test, Cheap, planned-lawful, steady-always}
+use Rattle.steps.specs.Types.{Held, Nothing, Digit, State, Stop, InputUsed, NotADigit, RangeLeft}
+use Rattle.steps.specs.State.{loaded, given, absorbed, heldCount, endNumber}
+use Rattle.steps.specs.Step.{Setting, chosen, givenMatrix, absorbedMatrix, heldPlan, planBy, plan, plain}
+
+abbrev held : State → ℕ
+held s = heldCount (s .held)
+
+abbrev Costs : ℕ → State → Deed → Type 0
+Costs n t d = suc (held t) ≤ cost d + n
+
+held-cheap : (y : Setting) (s : State) (h : ℕ) (o : Option ℕ) → held s ≡ 1 → Cheap held 1 (heldPlan y s h o)
+unfolding Each
+held-cheap y s h (some b) e = let t = given s (cancelOf (givenMatrix (y .output) s b)) in each-test (Costs 1) (gave b) (within? 1000000000 (t .matrix)) t RangeLeft (λ k. omega arith)
+held-cheap y s h none e = let t = absorbed s (cancelOf (absorbedMatrix (y .input) s h)) in each-test (Costs 1) nothing (within? 1000000000 (t .matrix)) t RangeLeft (λ k. omega arith)
+
+cheap : (y : Setting) (s : State) (h : Held) → held s ≡ heldCount h → Cheap held (heldCount h) (planBy y s h)
+unfolding Each
+cheap y s Nothing e = λ b. each-test (Costs 0) (took-x b) (ltb b (y .input .count)) (loaded s b) NotADigit (λ k. omega arith)
+cheap y s (Digit h) e = held-cheap y s h (chosen y s h) e
+
+-- why a step stops: one of document 01's four ends, and never a refusal
+abbrev pub StepEnd : Stop → Type 0
+StepEnd e = (endNumber e ≡ 0) ⊎ ((20 ≤ endNumber e) × (endNumber e ≤ 22))
+
+held-stops : (y : Setting) (s : State) (h : ℕ) (o : Option ℕ) → EachStop StepEnd (heldPlan y s h o)
+unfolding EachStop
+held-stops y s h (some b) = let t = given s (cancelOf (givenMatrix (y .output) s b)) in (inr (omega arith, omega arith), stop-test StepEnd (within? 1000000000 (t .matrix)) t RangeLeft (inr (omega arith, omega arith)))
+held-stops y s h none = let t = absorbed s (cancelOf (absorbedMatrix (y .input) s h)) in stop-test StepEnd (within? 1000000000 (t .matrix)) t RangeLeft (inr (omega arith, omega arith))
+
+plan-stops : (y : Setting) (s : State) (h : Held) → EachStop StepEnd (planBy y s h)
+unfolding EachStop
+plan-stops y s Nothing = (inl refl, λ b. stop-test StepEnd (ltb b (y .input .count)) (loaded s b) NotADigit (inr (omega arith, omega arith)))
+plan-stops y s (Digit h) = held-stops y s h (chosen y s h)
+
+pub step-stops : (y : Setting) (s : State) (r : Supply) → Halting StepEnd (plain y .step s r)
+step-stops y s r = follow-halts StepEnd (plan y s) (plan-stops y s (s .held)) r
+
+pub lawful : (y : Setting) → Lawful (plain y)
+lawful y = planned-lawful (λ s r. plan y s) held InputUsed (λ s r. cheap y s (s .held) refl)
+
+pub steady : (y : Setting) (more : Supply) → Steady (plain y) more Always
+steady y more = steady-always (plan y) held InputUsed more

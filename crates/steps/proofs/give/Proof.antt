@@ -1,0 +1,41 @@
+-- `steps::give` meets its contract: line 4 of a step, for the digit that fits.
+use borrow.Author.Needs.{needs}
+use mathlib.Core.Path.{_≡_, sym, ap, subst, _∙_}
+use mathlib.Core.List.{List}
+use lib.IntN.{ℤ}
+use denote.Ref.{now}
+use Rattle.whole.specs.Range.{Within}
+use Rattle.whole.proofs.Laws.{within-le}
+use Rattle.plane.specs.Plane.{cancelOf, multiplyOf, pseudoinverseOf}
+use Rattle.digits.specs.System.{transformationAt}
+use Rattle.steps.specs.Types.{State, Give}
+use Rattle.steps.specs.State.{given}
+use Rattle.steps.specs.Made.{Factors}
+use Rattle.steps.proofs.Plans.{rangedMove, gives, no-room}
+use Rattle.steps.proofs.Factors.{give-factors}
+use Rattle.steps.proofs.give.Statement.{statement}
+use Rattle.steps.proofs.give.Tie as tie
+
+returns : tie.Need-returns
+returns c = λ bytes. no-room (c .before .args .s) _ _ _ bytes (c .if1 .taken)
+
+pseudoinverse-requires : tie.Need-pseudoinverse-requires
+pseudoinverse-requires c κs = subst (Within 1000000000) (sym (c .transformation .ensures)) (within-le (c .before .before .before .pre .digit .in-range .numbers-f) tt)
+
+-- the pseudoinverse that was formed
+turned : (c : tie.After-pseudoinverse) → let a = c .before .before .before .before .args in c .pseudoinverse .result ≡ pseudoinverseOf (transformationAt (now (a .rows)) (a .b))
+turned c = c .pseudoinverse .ensures ∙ ap pseudoinverseOf (c .before .transformation .ensures)
+
+product-requires : tie.Need-product-requires
+product-requires c κs = subst (λ (m : List ℤ). Factors m (c .before .before .before .before .args .s .matrix)) (sym (turned c)) (give-factors (c .before .before .before .before .pre))
+
+returns-2 : tie.Need-returns-2
+returns-2 c =
+    let p = c .before .before .before in
+    let a = p .before .before .before .before .args in
+    let x = c .before .before .product .ensures ∙ ap (λ (m : List ℤ). cancelOf (multiplyOf m (a .s .matrix))) (turned p) in
+    let t = c .before .given .ensures ∙ ap (given (a .s)) x in
+    λ bytes. rw (c .in-range .ensures ∙ ap (rangedMove (a .s) (Give (a .b))) t) (gives (a .s) _ (a .b) (a .free) bytes (p .before .before .before .if1 .left))
+
+pub give-spec : {M : Type 1} → statement M
+give-spec = tie.close (tie.spec returns (λ c κs. search needs) pseudoinverse-requires product-requires (λ c κs. search needs) (λ c κs. search needs) returns-2)

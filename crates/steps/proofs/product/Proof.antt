@@ -1,0 +1,22 @@
+-- `steps::product` meets its contract, by those of its two calls.
+use borrow.Author.Needs.{needs}
+use mathlib.Core.Path.{sym, ap, subst, _∙_}
+use mathlib.Core.List.{List}
+use Prim.Native.Nat.{_<_}
+use lib.IntN.{ℤ}
+use Rattle.whole.specs.Range.{Within}
+use Rattle.whole.specs.Divisor.{gcd4}
+use Rattle.plane.specs.Plane.{cancelOf}
+use Rattle.steps.proofs.product.Statement.{statement}
+use Rattle.steps.proofs.product.Tie as tie
+
+cancel-requires : tie.Need-cancel-requires
+cancel-requires c κs =
+    let p = c .before .pre in
+    (subst (Within 200000000000) (sym (c .multiply .ensures)) (p .range), subst (λ (m : List ℤ). 0 < gcd4 m) (sym (c .multiply .ensures)) (p .divisor))
+
+returns : tie.Need-returns
+returns c = c .cancel .ensures ∙ ap cancelOf (c .before .multiply .ensures)
+
+pub product-spec : {M : Type 1} → statement M
+product-spec = tie.close (tie.spec (λ c κs. search needs) cancel-requires returns)

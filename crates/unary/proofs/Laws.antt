@@ -1,0 +1,12 @@
+-- What the crates above may use of this one: `use Rattle.unary.proofs.Laws.{..}`.
+
+-- opening
+pub use Rattle.unary.proofs.OpeningSays.{opening-says, opens, hands-out, opened-rules}
+-- what is judged before any step
+pub use Rattle.unary.proofs.Judging.{state-says, Accepted, accepted, RefusalNumber, refusal-number}
+-- runs
+pub use Rattle.unary.proofs.Runs.{accepted-again, CourseInRange, course-in-range, AnswerInRange, in-range, written-only, run-accepted, refused-untouched, few-steps, few-steps-free}
+pub use Rattle.unary.proofs.Again.{stops-again, cut-anywhere}
+pub use Rattle.unary.proofs.SameRun.{same-course, same-run}
+-- no second answer fits
+pub use Rattle.unary.proofs.OneAnswer.{one-opening, one-opening-sentence, one-judgement, RunPromise, one-run}

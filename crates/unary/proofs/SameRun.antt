@@ -1,0 +1,47 @@
+-- "What is kept for the digits a system hasn't got is 0 when it is read, and no answer depends on it": two pairs of systems with the same digits make the same run. They
+-- are judged alike (`unused-rows` of crates/admission), and each step is the same (`same-plan` of crates/steps), since what is held stays a digit of the input system.
+use mathlib.Core.Path.{_≡_, sym, ap, _∙_}
+use mathlib.Core.Bool.{cond}
+use mathlib.Core.List.{List}
+use Prim.Native.Nat.{ℕ}
+use lib.ListN.{length}
+use Rattle.whole.specs.Refusal.{unlessRefused}
+use Rattle.digits.specs.Types.{System}
+use Rattle.digits.specs.System.{SameDigits}
+use Rattle.admission.specs.Admission.{refusalNumber}
+use Rattle.admission.proofs.Laws.{admitted-few, unused-rows}
+use Rattle.runs.specs.Plan.{Plan, follow}
+use Rattle.runs.specs.Run.{Course}
+use Rattle.runs.proofs.Laws.{same-runs, either, accepted-run, refused-run}
+use Rattle.steps.specs.Types.{State, Stop, Refused}
+use Rattle.steps.specs.State.{HeldDigit}
+use Rattle.steps.specs.Step.{setting, plain, oneWord}
+use Rattle.steps.proofs.Laws.{lawful, same-plan, step-holds}
+use Rattle.unary.specs.Judging.{state?, refusalOf}
+use Rattle.unary.specs.Run.{courseOf, leaves, runOf}
+use Rattle.unary.proofs.Judging.{accepted}
+
+module _ (a a′ b b′ : System) (f : SameDigits a a′) (g : SameDigits b b′) (s : State) where
+  same-refusal : refusalOf (setting a b) s ≡ refusalOf (setting a′ b′) s
+  unfolding refusalOf
+  same-refusal =
+      let p = unused-rows f in
+      let q = unused-rows g in
+      λ i. unlessRefused (refusalNumber (p i)) (λ n. n) (unlessRefused (refusalNumber (q i)) (λ n. n) (cond (state? (f .count i) s) 0 12))
+
+  pub same-course : (input : List ℕ) (room : ℕ) → courseOf a b s input room ≡ courseOf a′ b′ s input room
+  unfolding courseOf
+  same-course input room =
+      let y = setting a b in
+      let z = setting a′ b′ in
+      let r = oneWord input room in
+      either (plain y) Refused (refusalOf y) s r (λ q. q ≡ courseOf a′ b′ s input room)
+      (λ e. let k = accepted y s .0 e in
+      same-runs (lawful y) (lawful z) (λ t. HeldDigit (a .count) (t .held))
+      (λ t r h. (ap (λ (p : Plan State Stop). follow p r) (same-plan y z f g (admitted-few a (k .input)) (admitted-few b (k .output)) t h), step-holds y t r h)) s r (k .state .held-digit) ∙
+      sym (accepted-run (plain z) Refused (refusalOf z) s r (sym same-refusal ∙ e)))
+      (λ n e. sym (refused-run (plain z) Refused (refusalOf z) s r n (sym same-refusal ∙ e)))
+
+  pub same-run : (inp out : List ℕ) → runOf a b s inp out ≡ runOf a′ b′ s inp out
+  unfolding runOf
+  same-run inp out = ap (λ (q : Course State Stop). leaves q out) (same-course inp (length out))
