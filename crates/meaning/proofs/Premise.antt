@@ -10,28 +10,28 @@ use Prim.Native.Nat.{ℕ, zero, suc}
 use native.Mathlib.Omega.{arith}
 use lib.Dec.{T}
 use lib.IntN.{ℤ, pos}
-use Rattle.whole.proofs.Cases.{up<}
+use Rattle.whole.proofs.Laws.{up<}
 use Rattle.plane.specs.Plane.{Pair, SamePoint, apply, Closed}
 use Rattle.plane.specs.Scale.{scalePair}
-use Rattle.plane.specs.Inclusion.{closed?}
-use Rattle.plane.proofs.SameSign.{above-not-0}
-use Rattle.plane.proofs.Points.{same-refl, same-sym, same-trans, same-scale, closed-same}
-use Rattle.digits.specs.System.{fourAt}
+use Rattle.inclusion.specs.Inclusion.{closed?}
+use Rattle.plane.proofs.Laws.{above-not-0, same-refl, same-sym, same-trans, same-scale, closed-same}
+use Rattle.digits.specs.Types.{System}
+use Rattle.digits.specs.System.{fourAt, transformationAt, intervalAt}
 use Rattle.digits.specs.BuiltIn.{minus, rowsR, rowsD, systemOf}
-use Rattle.unary.specs.declared.Held.the-variants.{Digit}
+use Rattle.steps.specs.Types.{Digit}
 use Rattle.meaning.specs.Names.{namedFrom, EachInItsInterval, HeldInItsInterval}
 use Rattle.meaning.proofs.Products.{named-same}
 
--- a number, and the rows of R and of D
+-- a number, and the systems R and D
 infix 70 _over_
 abbrev pub _over_ : ℤ → ℤ → Pair
 x over y = record { z0 = x; z1 = y }
 
-abbrev pub R : List ℤ
-R = systemOf rowsR .rows
+abbrev pub R : System
+R = systemOf rowsR
 
-abbrev pub D : List ℤ
-D = systemOf rowsD .rows
+abbrev pub D : System
+D = systemOf rowsD
 
 -- the test of `closed?`, where it computes
 pub computed : {w : List ℤ} {z : Pair} → T (closed? w z) → Closed w z
@@ -45,19 +45,19 @@ refused f c = f (c .not-below .le)
 -- ---- it holds
 
 pub names-2/5 : namedFrom R (0 ∷ 0 ∷ 1 ∷ []) (pos 1 over pos 1) ≡ pos 2 over pos 5
-unfolding namedFrom apply fourAt systemOf
+unfolding namedFrom apply fourAt transformationAt intervalAt systemOf
 names-2/5 = refl
 
 pub holds-at-1 : EachInItsInterval R (0 ∷ 0 ∷ 1 ∷ []) (pos 1 over pos 1)
-unfolding EachInItsInterval namedFrom apply fourAt systemOf closed?
+unfolding EachInItsInterval namedFrom apply fourAt transformationAt intervalAt systemOf closed?
 holds-at-1 = (computed tt, (computed tt, (computed tt, tt)))
 
 pub holds-at-infinity : EachInItsInterval R (0 ∷ 0 ∷ 1 ∷ []) (pos 1 over pos 0)
-unfolding EachInItsInterval namedFrom apply fourAt systemOf closed?
+unfolding EachInItsInterval namedFrom apply fourAt transformationAt intervalAt systemOf closed?
 holds-at-infinity = (computed tt, (computed tt, (computed tt, tt)))
 
 pub held-holds : HeldInItsInterval R (Digit 1) (pos 2 over pos 1)
-unfolding fourAt systemOf closed?
+unfolding fourAt transformationAt intervalAt systemOf closed?
 held-holds = computed tt
 
 -- D's endless word 2 0 2 0 .., as far as 2·n digits
@@ -67,12 +67,12 @@ endless (suc n) = 2 ∷ 0 ∷ endless n
 
 -- it names 1/3: two digits more make 4/12 of 1/3
 pub endless-names : (n : ℕ) → SamePoint (namedFrom D (endless n) (pos 1 over pos 3)) (pos 1 over pos 3)
-unfolding endless namedFrom apply fourAt systemOf scalePair
+unfolding endless namedFrom apply fourAt transformationAt intervalAt systemOf scalePair
 endless-names zero = same-refl (pos 1 over pos 3)
 endless-names (suc n) = same-trans (named-same D (2 ∷ 0 ∷ []) (endless-names n)) (same-sym (same-scale (pos 4) (pos 1 over pos 3) (above-not-0 (up< (omega arith)))))
 
 pub endless-holds : (n : ℕ) → EachInItsInterval D (endless n) (pos 1 over pos 3)
-unfolding endless EachInItsInterval namedFrom apply fourAt systemOf closed?
+unfolding endless EachInItsInterval namedFrom apply fourAt transformationAt intervalAt systemOf closed?
 endless-holds zero = tt
 endless-holds (suc n) =
     let s = same-sym (endless-names n) in
@@ -81,11 +81,11 @@ endless-holds (suc n) =
 -- ---- it fails
 
 pub fails-at-minus-1 : EachInItsInterval R (0 ∷ 0 ∷ 1 ∷ []) (minus 1 over pos 1) → ⊥
-unfolding EachInItsInterval namedFrom apply fourAt systemOf closed?
+unfolding EachInItsInterval namedFrom apply fourAt transformationAt intervalAt systemOf closed?
 fails-at-minus-1 e = refused (λ t. t) (e .1 .1 .0)
 
 pub held-fails : HeldInItsInterval R (Digit 1) (pos 1 over pos 2) → ⊥
-unfolding fourAt systemOf closed?
+unfolding fourAt transformationAt intervalAt systemOf closed?
 held-fails c = refused (λ t. t) c
 
 -- ---- document 01's job
@@ -94,13 +94,13 @@ abbrev matrix : List ℤ
 matrix = pos 2 ∷ pos 1 ∷ pos 1 ∷ pos 2 ∷ []
 
 pub input-names : apply matrix (namedFrom R (0 ∷ 0 ∷ 1 ∷ []) (pos 1 over pos 1)) ≡ pos 9 over pos 12
-unfolding namedFrom apply fourAt systemOf
+unfolding namedFrom apply fourAt transformationAt intervalAt systemOf
 input-names = refl
 
 pub output-names : namedFrom R (0 ∷ 1 ∷ 1 ∷ []) (apply matrix (pos 1 over pos 1)) ≡ pos 9 over pos 12
-unfolding namedFrom apply fourAt systemOf
+unfolding namedFrom apply fourAt transformationAt intervalAt systemOf
 output-names = refl
 
 pub output-holds : EachInItsInterval R (0 ∷ 1 ∷ 1 ∷ []) (apply matrix (pos 1 over pos 1))
-unfolding EachInItsInterval namedFrom apply fourAt systemOf closed?
+unfolding EachInItsInterval namedFrom apply fourAt transformationAt intervalAt systemOf closed?
 output-holds = (computed tt, (computed tt, (computed tt, tt)))

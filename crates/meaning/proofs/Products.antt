@@ -9,64 +9,63 @@ use mathlib.Core.List.{List, [], _∷_, _++_}
 use mathlib.Core.Logic.{_↔_}
 use Prim.Native.Nat.{ℕ}
 use lib.IntN.{ℤ, _*ℤ_}
-use Rattle.whole.proofs.Polynomial.{_⊗_}
-use Rattle.whole.proofs.Law.{#, _≗_, law}
+use Rattle.whole.proofs.Laws.{_⊗_, #, _≗_, law}
 use Rattle.plane.specs.Plane.{Pair, SamePoint, apply, determinantOf, multiplyOf, Closed}
-use Rattle.plane.proofs.Identities.{apply-identity, apply-multiply, multiply-assoc, multiply-identity-left, multiply-identity-right}
-use Rattle.plane.proofs.Points.{same-moves, closed-same}
-use Rattle.digits.specs.System.{transformationOf, intervalOf}
+use Rattle.plane.proofs.Laws.{apply-identity, apply-multiply, multiply-assoc, multiply-identity-left, multiply-identity-right, same-moves, closed-same}
+use Rattle.digits.specs.Types.{System}
+use Rattle.digits.specs.System.{transformation, interval}
 use Rattle.meaning.specs.Names.{namedFrom, productOf, determinantsOf, EachInItsInterval}
 
-module _ (rows : List ℤ) where
+module _ (y : System) where
   -- ---- one more digit at the end
 
-  pub product-append : (digits : List ℕ) (a : ℕ) → productOf rows (digits ++ a ∷ []) ≡ multiplyOf (productOf rows digits) (transformationOf rows a)
+  pub product-append : (digits : List ℕ) (a : ℕ) → productOf y (digits ++ a ∷ []) ≡ multiplyOf (productOf y digits) (transformation y a)
   unfolding productOf
-  product-append [] a = multiply-identity-right (transformationOf rows a) ∙ sym (multiply-identity-left (transformationOf rows a))
+  product-append [] a = multiply-identity-right (transformation y a) ∙ sym (multiply-identity-left (transformation y a))
   product-append (b ∷ digits) a =
-      ap (multiplyOf (transformationOf rows b)) (product-append digits a) ∙
-      sym (multiply-assoc (transformationOf rows b) (productOf rows digits) (transformationOf rows a))
+      ap (multiplyOf (transformation y b)) (product-append digits a) ∙
+      sym (multiply-assoc (transformation y b) (productOf y digits) (transformation y a))
 
-  pub determinants-append : (digits : List ℕ) (a : ℕ) → determinantsOf rows (digits ++ a ∷ []) ≡ determinantsOf rows digits *ℤ determinantOf (transformationOf rows a)
+  pub determinants-append : (digits : List ℕ) (a : ℕ) → determinantsOf y (digits ++ a ∷ []) ≡ determinantsOf y digits *ℤ determinantOf (transformation y a)
   unfolding determinantsOf
-  determinants-append [] a = law 1 (λ d. d ⊗ # 1 ≗ # 1 ⊗ d) tt (determinantOf (transformationOf rows a))
+  determinants-append [] a = law 1 (λ d. d ⊗ # 1 ≗ # 1 ⊗ d) tt (determinantOf (transformation y a))
   determinants-append (b ∷ digits) a =
-      ap (λ (z : ℤ). determinantOf (transformationOf rows b) *ℤ z) (determinants-append digits a) ∙
-      law 3 (λ c k d. c ⊗ (k ⊗ d) ≗ c ⊗ k ⊗ d) tt (determinantOf (transformationOf rows b)) (determinantsOf rows digits) (determinantOf (transformationOf rows a))
+      ap (λ (z : ℤ). determinantOf (transformation y b) *ℤ z) (determinants-append digits a) ∙
+      law 3 (λ c k d. c ⊗ (k ⊗ d) ≗ c ⊗ k ⊗ d) tt (determinantOf (transformation y b)) (determinantsOf y digits) (determinantOf (transformation y a))
 
-  pub named-append : (digits : List ℕ) (a : ℕ) (t : Pair) → namedFrom rows (digits ++ a ∷ []) t ≡ namedFrom rows digits (apply (transformationOf rows a) t)
+  pub named-append : (digits : List ℕ) (a : ℕ) (t : Pair) → namedFrom y (digits ++ a ∷ []) t ≡ namedFrom y digits (apply (transformation y a) t)
   unfolding namedFrom
   named-append [] a t = refl
-  named-append (b ∷ digits) a t = ap (apply (transformationOf rows b)) (named-append digits a t)
+  named-append (b ∷ digits) a t = ap (apply (transformation y b)) (named-append digits a t)
 
   pub each-append : (digits : List ℕ) (a : ℕ) (t : Pair) →
-      EachInItsInterval rows (digits ++ a ∷ []) t ↔
-      (EachInItsInterval rows digits (apply (transformationOf rows a) t) × Closed (intervalOf rows a) (apply (transformationOf rows a) t))
+      EachInItsInterval y (digits ++ a ∷ []) t ↔
+      (EachInItsInterval y digits (apply (transformation y a) t) × Closed (interval y a) (apply (transformation y a) t))
   unfolding EachInItsInterval namedFrom
   each-append [] a t = (λ e. (tt, e .0), λ e. (e .1, tt))
   each-append (b ∷ digits) a t =
-      let first = ap (apply (transformationOf rows b)) (named-append digits a t) in
+      let first = ap (apply (transformation y b)) (named-append digits a t) in
       let rest = each-append digits a t in (
-        λ e. ((subst (Closed (intervalOf rows b)) first (e .0), rest .0 (e .1) .0), rest .0 (e .1) .1),
-        λ e. (subst (Closed (intervalOf rows b)) (sym first) (e .0 .0), rest .1 (e .0 .1, e .1)),
+        λ e. ((subst (Closed (interval y b)) first (e .0), rest .0 (e .1) .0), rest .0 (e .1) .1),
+        λ e. (subst (Closed (interval y b)) (sym first) (e .0 .0), rest .1 (e .0 .1, e .1)),
       )
 
   -- ---- the product, applied
 
-  pub product-names : (digits : List ℕ) (t : Pair) → apply (productOf rows digits) t ≡ namedFrom rows digits t
+  pub product-names : (digits : List ℕ) (t : Pair) → apply (productOf y digits) t ≡ namedFrom y digits t
   unfolding productOf namedFrom
   product-names [] t = apply-identity t
   product-names (a ∷ digits) t =
-      apply-multiply (transformationOf rows a) (productOf rows digits) t ∙ ap (apply (transformationOf rows a)) (product-names digits t)
+      apply-multiply (transformation y a) (productOf y digits) t ∙ ap (apply (transformation y a)) (product-names digits t)
 
   -- ---- the same point
 
-  pub named-same : (digits : List ℕ) {t u : Pair} → SamePoint t u → SamePoint (namedFrom rows digits t) (namedFrom rows digits u)
+  pub named-same : (digits : List ℕ) {t u : Pair} → SamePoint t u → SamePoint (namedFrom y digits t) (namedFrom y digits u)
   unfolding namedFrom
   named-same [] s = s
-  named-same (a ∷ digits) s = same-moves (transformationOf rows a) (named-same digits s)
+  named-same (a ∷ digits) s = same-moves (transformation y a) (named-same digits s)
 
-  pub each-same : (digits : List ℕ) {t u : Pair} → SamePoint t u → EachInItsInterval rows digits t → EachInItsInterval rows digits u
+  pub each-same : (digits : List ℕ) {t u : Pair} → SamePoint t u → EachInItsInterval y digits t → EachInItsInterval y digits u
   unfolding EachInItsInterval
   each-same [] s e = tt
   each-same (a ∷ digits) s e = (closed-same (named-same (a ∷ digits) s) (e .0), each-same digits s (e .1))

@@ -11,21 +11,25 @@ use lib.ListN.{replicate}
 use lib.IntN.{ℤ, pos, natAbs}
 use Rattle.whole.specs.Range.{at}
 use Rattle.whole.specs.Divisor.{gcdBy, gcd, gcd4}
-use Rattle.whole.proofs.Cases.{up<}
+use Rattle.whole.specs.First.{first}
+use Rattle.whole.specs.Refusal.{unlessRefused}
+use Rattle.whole.proofs.Laws.{up<}
 use Rattle.plane.specs.Plane.{Point, SamePoint, determinantOf, pseudoinverseOf, apply, multiplyOf, Closed, imageOf, cancelOf}
 use Rattle.plane.specs.Scale.{scaleOf}
-use Rattle.plane.specs.Inclusion.{closed?, same?, included?}
-use Rattle.plane.proofs.SameSign.{above-not-0}
-use Rattle.digits.specs.First.{first}
-use Rattle.digits.specs.System.{fourAt}
-use Rattle.digits.specs.Admission.{within?, rowVerdict, rowsVerdict, admissionOf}
+use Rattle.plane.specs.Tests.{within?}
+use Rattle.plane.proofs.Laws.{above-not-0}
+use Rattle.inclusion.specs.Inclusion.{closed?, same?, included?}
+use Rattle.digits.specs.System.{fourAt, transformationAt, intervalAt}
 use Rattle.digits.specs.BuiltIn.{rowsR, systemOf}
-use Rattle.digits.proofs.BuiltIn.{r-admitted}
-use Rattle.unary.specs.declared.Held.the-variants.{Nothing, Digit}
-use Rattle.unary.specs.declared.State.{State}
-use Rattle.unary.specs.State.{state?, openOf}
-use Rattle.unary.specs.Step.{fittingOf, stepOf}
-use Rattle.unary.specs.Run.{runBy, stepsOf, refusalOf, lentRun, runOf}
+use Rattle.admission.specs.Admission.{rowVerdict, rowsVerdict, admissionOf}
+use Rattle.admission.proofs.Laws.{r-admitted}
+use Rattle.runs.specs.Plan.{follow}
+use Rattle.runs.specs.Run.{runBy, run, judgedRun}
+use Rattle.steps.specs.Types.{Nothing, Digit, State}
+use Rattle.steps.specs.Step.{fittingOf}
+use Rattle.unary.specs.Opening.{openOf}
+use Rattle.unary.specs.Judging.{state?, refusalOf}
+use Rattle.unary.specs.Run.{courseOf}
 use Rattle.meaning.specs.Names.{namedFrom, productOf, EachInItsInterval, UpToScale}
 use Rattle.meaning.specs.Session.{Session}
 use Rattle.meaning.proofs.Sessions.{session-product, session-numbers}
@@ -45,33 +49,33 @@ unfolding openOf within? determinantOf cancelOf gcd4 gcd gcdBy
 new = Session.opened r-admitted r-admitted refl
 
 pub whole-word : SessionR (0 ∷ 0 ∷ 1 ∷ []) (0 ∷ 1 ∷ 1 ∷ []) (record { matrix = four 2 1 1 2; held = Nothing })
-unfolding systemOf admissionOf rowsVerdict rowVerdict within? gcd gcd4 gcdBy fourAt first closed? same? included? determinantOf pseudoinverseOf apply multiplyOf imageOf
-    cancelOf state? fittingOf stepOf runBy stepsOf refusalOf lentRun runOf
+unfolding systemOf admissionOf rowsVerdict rowVerdict within? gcd gcd4 gcdBy fourAt transformationAt intervalAt first unlessRefused closed? same? included? determinantOf
+    pseudoinverseOf apply multiplyOf imageOf cancelOf state? fittingOf follow runBy run refusalOf judgedRun courseOf
 whole-word = Session.called new (0 ∷ 0 ∷ 1 ∷ []) (replicate 8 0)
 
 pub half-way : SessionR (0 ∷ 0 ∷ 1 ∷ []) (0 ∷ 1 ∷ []) (record { matrix = four 3 0 1 1; held = Digit 1 })
-unfolding systemOf admissionOf rowsVerdict rowVerdict within? gcd gcd4 gcdBy fourAt first closed? same? included? determinantOf pseudoinverseOf apply multiplyOf imageOf
-    cancelOf state? fittingOf stepOf runBy stepsOf refusalOf lentRun runOf
+unfolding systemOf admissionOf rowsVerdict rowVerdict within? gcd gcd4 gcdBy fourAt transformationAt intervalAt first unlessRefused closed? same? included? determinantOf
+    pseudoinverseOf apply multiplyOf imageOf cancelOf state? fittingOf follow runBy run refusalOf judgedRun courseOf
 half-way = Session.called new (0 ∷ 0 ∷ 1 ∷ []) (replicate 2 0)
 
 pub two-calls : SessionR (0 ∷ 0 ∷ 1 ∷ []) (0 ∷ 1 ∷ 1 ∷ []) (record { matrix = four 2 1 1 2; held = Nothing })
-unfolding systemOf admissionOf rowsVerdict rowVerdict within? gcd gcd4 gcdBy fourAt first closed? same? included? determinantOf pseudoinverseOf apply multiplyOf imageOf
-    cancelOf state? fittingOf stepOf runBy stepsOf refusalOf lentRun runOf
+unfolding systemOf admissionOf rowsVerdict rowVerdict within? gcd gcd4 gcdBy fourAt transformationAt intervalAt first unlessRefused closed? same? included? determinantOf
+    pseudoinverseOf apply multiplyOf imageOf cancelOf state? fittingOf follow runBy run refusalOf judgedRun courseOf
 two-calls = Session.called half-way [] (replicate 6 0)
 
 -- ---- the product, in plain numbers
 
 pub whole-product : UpToScale (four 4 5 5 7) (four 4 5 5 7)
-unfolding multiplyOf productOf fourAt systemOf
+unfolding multiplyOf productOf fourAt transformationAt intervalAt systemOf
 whole-product = session-product whole-word (0 ∷ 0 ∷ 1 ∷ []) refl
 
 pub half-product : UpToScale (four 4 1 5 2) (four 4 1 5 2)
-unfolding multiplyOf productOf fourAt systemOf
+unfolding multiplyOf productOf fourAt transformationAt intervalAt systemOf
 half-product = session-product half-way (0 ∷ 0 ∷ []) refl
 
 -- the four numbers with the held digit absorbed are no multiple of that
 pub held-not-absorbed : UpToScale (four 4 1 5 2) (multiplyOf (four 2 1 1 2) (productOf R (0 ∷ 0 ∷ 1 ∷ []))) → ⊥
-unfolding multiplyOf productOf fourAt systemOf scaleOf
+unfolding multiplyOf productOf fourAt transformationAt intervalAt systemOf scaleOf
 held-not-absorbed u =
     let first : u .p * 4 ≡ u .q * 4 = ap (λ (m : List ℤ). natAbs (at m 0)) (u .equal) in
     let second : u .p * 1 ≡ u .q * 5 = ap (λ (m : List ℤ). natAbs (at m 1)) (u .equal) in
@@ -91,7 +95,7 @@ pub record SaysWhole : Type 0 where
   pub digit-1-again : Closed (four 1 1 1 0) (pos 6 over pos 3)
 
 pub whole-numbers : SaysWhole
-unfolding namedFrom EachInItsInterval apply fourAt systemOf
+unfolding namedFrom EachInItsInterval apply fourAt transformationAt intervalAt systemOf
 whole-numbers =
     let n = session-numbers whole-word (0 ∷ 0 ∷ 1 ∷ []) refl (pos 1 over pos 1) (fraction 1) holds-at-1 tt in
     record {
@@ -109,7 +113,7 @@ pub record SaysHalf : Type 0 where
   pub digit-1 : Closed (four 1 1 1 0) (pos 9 over pos 3)
 
 pub half-numbers : SaysHalf
-unfolding namedFrom EachInItsInterval apply fourAt systemOf closed?
+unfolding namedFrom EachInItsInterval apply fourAt transformationAt intervalAt systemOf closed?
 half-numbers =
     let n = session-numbers half-way (0 ∷ 0 ∷ []) refl (pos 2 over pos 1) (fraction 2) (computed tt, (computed tt, tt)) held-holds in
     record { still-to-come = n .still-to-come; same-number = n .same-number; digit-0 = n .each-in-its-interval .0; digit-1 = n .each-in-its-interval .1 .0 }

@@ -1,4 +1,7 @@
--- Demand 3, "The meaning", as definitions: what digits name, the steps of a session, what a session is, and what is said of it.
+-- Demand 3, "The meaning", as definitions: what digits name, what a session is, and what is said of it.
+--   Names     what digits name
+--   Session   a session, and the two claims of demand 3
+--   Moments   each moment of a session, also between two steps: any number of steps by the lines of document 01, with any choice among the digits that fit; and the scale
 pub mod Names
-pub mod Steps
 pub mod Session
+pub mod Moments

@@ -5,34 +5,39 @@ use Prim.Native.Nat.{ℕ, _<_}
 use lib.IntN.{ℤ, pos, _*ℤ_}
 use Rattle.plane.specs.Plane.{Pair, apply, determinantOf, multiplyOf, Closed}
 use Rattle.plane.specs.Scale.{scaleOf, identityOf}
-use Rattle.digits.specs.System.{transformationOf, intervalOf}
-use Rattle.unary.specs.declared.Held.{Held}
-use Rattle.unary.specs.declared.Held.the-variants.{Nothing, Digit}
+use Rattle.digits.specs.Types.{System}
+use Rattle.digits.specs.System.{transformation, interval}
+use Rattle.steps.specs.Types.{Held, Nothing, Digit}
 
 -- the number named from the first of some digits on, where t is named by what follows them
-unfoldable pub namedFrom : List ℤ → List ℕ → Pair → Pair
-namedFrom rows [] t = t
-namedFrom rows (a ∷ digits) t = apply (transformationOf rows a) (namedFrom rows digits t)
+unfoldable pub namedFrom : System → List ℕ → Pair → Pair
+namedFrom y [] t = t
+namedFrom y (a ∷ digits) t = apply (transformation y a) (namedFrom y digits t)
 
 -- the product of the digits' transformations, in their order
-unfoldable pub productOf : List ℤ → List ℕ → List ℤ
-productOf rows [] = identityOf
-productOf rows (a ∷ digits) = multiplyOf (transformationOf rows a) (productOf rows digits)
+unfoldable pub productOf : System → List ℕ → List ℤ
+productOf y [] = identityOf
+productOf y (a ∷ digits) = multiplyOf (transformation y a) (productOf y digits)
 
 -- the product of their determinants
-unfoldable pub determinantsOf : List ℤ → List ℕ → ℤ
-determinantsOf rows [] = pos 1
-determinantsOf rows (a ∷ digits) = determinantOf (transformationOf rows a) *ℤ determinantsOf rows digits
+unfoldable pub determinantsOf : System → List ℕ → ℤ
+determinantsOf y [] = pos 1
+determinantsOf y (a ∷ digits) = determinantOf (transformation y a) *ℤ determinantsOf y digits
 
 -- "the number named from each digit on lies in that digit's closed interval", where t is named by what follows the digits
-unfoldable pub EachInItsInterval : List ℤ → List ℕ → Pair → Type 0
-EachInItsInterval rows [] t = Unit {0}
-EachInItsInterval rows (a ∷ digits) t = Closed (intervalOf rows a) (namedFrom rows (a ∷ digits) t) × EachInItsInterval rows digits t
+unfoldable pub EachInItsInterval : System → List ℕ → Pair → Type 0
+EachInItsInterval y [] t = Unit {0}
+EachInItsInterval y (a ∷ digits) t = Closed (interval y a) (namedFrom y (a ∷ digits) t) × EachInItsInterval y digits t
 
 -- the same of the held digit, which is the first of what is not yet absorbed: t is named from it on
-abbrev pub HeldInItsInterval : List ℤ → Held → Pair → Type 0
-HeldInItsInterval rows Nothing t = Unit {0}
-HeldInItsInterval rows (Digit a) t = Closed (intervalOf rows a) t
+abbrev pub HeldInItsInterval : System → Held → Pair → Type 0
+HeldInItsInterval y Nothing t = Unit {0}
+HeldInItsInterval y (Digit a) t = Closed (interval y a) t
+
+-- "Absorbed, not taken: the held digit is not yet absorbed."
+abbrev pub heldDigits : Held → List ℕ
+heldDigits Nothing = []
+heldDigits (Digit a) = a ∷ []
 
 -- "equals, up to a positive scale": p·A = q·B for some whole numbers p and q above 0
 pub record UpToScale (a b : List ℤ) : Type 0 where
