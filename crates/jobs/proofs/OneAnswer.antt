@@ -7,8 +7,8 @@ use native.Mathlib.Omega.{arith}
 use Rattle.jobs.specs.declared.Verdict.the-variants.{Reads, Refused}
 use Rattle.jobs.specs.declared.Reading.{Reading}
 use Rattle.jobs.specs.Layout.{Contents}
-use Rattle.jobs.specs.Reading.{readOf}
-use Rattle.jobs.specs.Reads.{readingOf, ReadsAs}
+use Rattle.jobs.specs.Reading.{readingOf, readOf}
+use Rattle.jobs.specs.Reads.{ReadsAs}
 use Rattle.jobs.specs.Refuses.{Refuses}
 use Rattle.jobs.proofs.ReadsExactly.{refuses-read}
 

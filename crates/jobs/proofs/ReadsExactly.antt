@@ -1,108 +1,69 @@
 -- A job file is read exactly by its layout. `reads-exactly`: a file reads as a job exactly if it is that job's layout and the contents keep the rules. `refuses-exactly`: a
 -- file is refused by a number in a section exactly if document 01's sentence for that number holds there and every section before keeps the rules. `read-says`: one of the
--- two is the case for every file.
---
--- A section that keeps the rules is peeled off (`after-input`, `after-output`, `after-matrix`): what is answered of the file is answered of the bytes behind it. So both
--- directions go section by section, with what each section says.
+-- two is the case for every file. Each is what holds of every file of sections.
 use mathlib.Core.Path.{_≡_, refl, sym, ap, _∙_, subst}
-use mathlib.Core.List.{List, _++_}
+use mathlib.Core.List.{List, _++_, append-nil, append-assoc}
 use mathlib.Core.Logic.{_↔_}
-use Prim.Native.Nat.{ℕ, zero, suc, _+_}
-use lib.ListN.{length, take, drop}
-use lib.Seq.{drop-drop, take-length}
+use Prim.Native.Nat.{ℕ, _+_, _≤_}
+use native.Mathlib.Omega.{arith}
+use lib.ListN.{length, take, drop, length-append}
+use lib.Seq.{drop-at, take-length}
 use lib.IntN.{ℤ}
-use Rattle.digits.specs.declared.System.{System}
+use Rattle.sections.specs.Section.{Rules as Kept}
+use Rattle.sections.specs.File.{Exact, reads, refuses, Says as FileSays}
+use Rattle.digits.specs.Types.{System}
+use Rattle.admission.specs.Types.{Admitted}
+use Rattle.unary.specs.Types.{Opens}
 use Rattle.jobs.specs.declared.Verdict.{Verdict}
 use Rattle.jobs.specs.declared.Verdict.the-variants.{Reads, Refused}
 use Rattle.jobs.specs.declared.Reading.{Reading}
-use Rattle.jobs.specs.Layout.{Contents, systemBytes, matrixBytes, wordBytes, layoutOf, Bytes, SystemRules, MatrixRules, Rules}
-use Rattle.jobs.specs.Reading.{countOf, systemSize, systemSection, matrixSection, wordNumber, refused, judged, wordRead, matrixRead, outputRead, readOf}
-use Rattle.jobs.specs.Reads.{bytesOf, wordStart, readingOf, ReadsAs}
+use Rattle.jobs.specs.Layout.{Contents, twoBytes, systemBytes, matrixBytes, wordBytes, layoutOf, Bytes, SystemRules, Rules}
+use Rattle.jobs.specs.Sections.{system}
+use Rattle.jobs.specs.Reading.{wordStart, readingOf, refused, Parts, job, contentsOf, readOf}
+use Rattle.jobs.specs.Reads.{ReadsAs}
 use Rattle.jobs.specs.Refuses.{Refuses}
-use Rattle.jobs.proofs.Begins.{drop-bytes}
-use Rattle.jobs.proofs.Ways.{refused-here}
-use Rattle.jobs.proofs.SystemSays.{SystemSays, system-says, system-number, system-not-0, system-read}
-use Rattle.jobs.proofs.MatrixSays.{MatrixSays, matrix-says, matrix-number, matrix-not-0, matrix-read}
-use Rattle.jobs.proofs.WordSays.{WordSays, word-says, word-number, word-not-0, word-read}
+use Rattle.jobs.proofs.Judgements.{admitted, opened, system-16, matrix-16}
+use Rattle.jobs.proofs.Sections.{system-lawful, matrix-lawful, job-lawful}
 
--- ---- sections that keep the rules are peeled off
+abbrev answer : Parts → Reading
+answer p = readingOf (contentsOf p)
 
-module _ {bytes : List ℕ} (more : List ℕ) where
-  after-input : (s : System) → SystemRules s → bytes ≡ systemBytes s ++ more → readOf bytes ≡ outputRead more (bytesOf s) s
-  unfolding readOf
-  after-input s h e =
-      let r = system-read s more h e in
-      λ i. judged 0 (r .section i .number) (outputRead (r .rest i) (r .size i) (r .section i .system))
+exact : Exact job answer refused
+exact = job-lawful Reading answer refused
 
-  after-output : (start : ℕ) (s t : System) → SystemRules t → bytes ≡ systemBytes t ++ more → outputRead bytes start s ≡ matrixRead more (start + bytesOf t) s t
-  unfolding outputRead
-  after-output start s t h e =
-      let r = system-read t more h e in
-      λ i. judged 1 (r .section i .number) (matrixRead (r .rest i) (start + r .size i) s (r .section i .system))
+-- ---- the file of sections has the layout, and the rules of its sections are the rules
 
-  after-matrix : (start : ℕ) (s t : System) (m : List ℤ) → MatrixRules m → bytes ≡ matrixBytes m ++ more → matrixRead bytes start s t ≡ wordRead more (start + 10) s t m
-  unfolding matrixRead
-  after-matrix start s t m h e =
-      let r = matrix-read m more h e in
-      λ i. judged 2 (r .section i .number) (wordRead (r .rest i) (start + 10) s t (r .section i .matrix))
+abbrev partsOf : Contents → Parts
+partsOf c = (c .input, (c .output, (c .matrix, (c .word, tt))))
 
--- ---- where a file is a layout, the answer is its job
+same-layout : (c : Contents) → job .layout (partsOf c) ≡ layoutOf c
+same-layout c = ap (λ (l : List ℕ). systemBytes (c .input) ++ (systemBytes (c .output) ++ (matrixBytes (c .matrix) ++ l))) (append-nil (wordBytes (c .word)))
 
-module _ (c : Contents) (h : Rules c) where
-  abbrev behind-matrix : List ℕ
-  behind-matrix = wordBytes (c .word)
+kept-rules : (p : Parts) → job .Keeps p → Rules (contentsOf p)
+kept-rules p k = record {
+  input = record { admissible = admitted (k .0 .kept); unused = k .0 .sayable .unused };
+  output = record { admissible = admitted (k .1 .0 .kept); unused = k .1 .0 .sayable .unused };
+  matrix = let m = k .1 .1 .0 in record { four = m .sayable .four; in-range = opened (m .kept) .0; above = opened (m .kept) .1 };
+  word = k .1 .1 .1 .0 .sayable;
+}
 
-  abbrev behind-output : List ℕ
-  behind-output = matrixBytes (c .matrix) ++ behind-matrix
+system-kept : (s : System) → SystemRules s → Kept system s
+system-kept s h = record {
+  sayable = record { some-digits = h .admissible .some-digits; few-digits = h .admissible .few-digits; numbers = system-16 h; unused = h .unused };
+  kept = record { answer = Admitted; numbered = refl; holds = h .admissible };
+}
 
-  abbrev behind-input : List ℕ
-  behind-input = systemBytes (c .output) ++ behind-output
-
-  last : wordRead behind-matrix (bytesOf (c .input) + bytesOf (c .output) + 10) (c .input) (c .output) (c .matrix) ≡ readingOf c
-  unfolding wordRead readingOf
-  last =
-      let r = word-read (c .word) (h .word .short) refl in
-      λ i. judged 3 (r .number i) (record {
-        verdict = Reads;
-        job = record { input = c .input; output = c .output; matrix = c .matrix; word = record { start = wordStart c; length = r .count i } };
-      })
-
-  read-layout : readOf (layoutOf c) ≡ readingOf c
-  unfolding layoutOf
-  read-layout =
-      after-input behind-input (c .input) (h .input) refl ∙ after-output behind-output (bytesOf (c .input)) (c .input) (c .output) (h .output) refl ∙
-      after-matrix behind-matrix (bytesOf (c .input) + bytesOf (c .output)) (c .input) (c .output) (c .matrix) (h .matrix) refl ∙ last
-
-  -- the word stands where the answer says
-  word-there : drop (wordStart c) (layoutOf c) ≡ c .word
-  unfolding layoutOf
-  word-there =
-      let a = bytesOf (c .input) in
-      let b = bytesOf (c .output) in
-      let i = system-read (c .input) behind-input (h .input) refl in
-      let o = system-read (c .output) behind-output (h .output) refl in
-      sym (drop-drop 2 (a + b + 10) (layoutOf c)) ∙ ap (drop 2) (sym (drop-drop 10 (a + b) (layoutOf c)) ∙ ap (drop 10) (sym (drop-drop b a (layoutOf c)) ∙
-      ap (drop b) (ap (λ (k : ℕ). drop k (layoutOf c)) (sym (i .size)) ∙ i .rest) ∙ ap (λ (k : ℕ). drop k behind-input) (sym (o .size)) ∙ o .rest) ∙
-      matrix-read (c .matrix) behind-matrix (h .matrix) refl .rest) ∙ word-read (c .word) (h .word .short) refl .rest
-
-  pub layout-reads : ReadsAs (layoutOf c) c
-  layout-reads = record { answer = read-layout; word = ap (take (length (c .word))) word-there ∙ take-length (c .word) }
-
--- ---- where a sentence of refusal holds, its number and section are answered
-
-pub refuses-read : (file : List ℕ) (number section : ℕ) → Refuses file number section → readOf file ≡ refused number section
-unfolding readOf outputRead matrixRead wordRead
-refuses-read file number section r = elim r [
-  | Refuses.in-input {file} {number = n} b ↦ sym (refused-here 0 (systemSection file .number) _ (sym (system-number file n b)) (system-not-0 file n b))
-  | Refuses.in-output {file} {rest} {s} {number = n} h e b ↦
-      after-input rest s h e ∙ sym (refused-here 1 (systemSection rest .number) _ (sym (system-number rest n b)) (system-not-0 rest n b))
-  | Refuses.in-matrix {file} {rest} {s} {t} {number = n} h k e b ↦
-      after-input (systemBytes t ++ rest) s h e ∙ after-output rest (bytesOf s) s t k refl ∙
-      sym (refused-here 2 (matrixSection rest .number) _ (sym (matrix-number rest n b)) (matrix-not-0 rest n b))
-  | Refuses.in-word {file} {rest} {s} {t} {m} {number = n} h k l e b ↦
-      after-input (systemBytes t ++ (matrixBytes m ++ rest)) s h e ∙ after-output (matrixBytes m ++ rest) (bytesOf s) s t k refl ∙
-      after-matrix rest (bytesOf s + bytesOf t) s t m l refl ∙ sym (refused-here 3 (wordNumber rest) _ (sym (word-number rest n b)) (word-not-0 rest n b))
-]
+pub rules-kept : (c : Contents) → Rules c → job .Keeps (partsOf c)
+rules-kept c h = (
+  system-kept (c .input) (h .input),
+  (
+    system-kept (c .output) (h .output),
+    (
+      record { sayable = record { four = h .matrix .four; numbers = matrix-16 (h .matrix) }; kept = record { answer = Opens; numbered = refl; holds = (h .matrix .in-range, h .matrix .above) } },
+      (record { sayable = h .word; kept = refl }, tt),
+    ),
+  ),
+)
 
 -- ---- what is answered is so
 
@@ -111,55 +72,18 @@ abbrev pub Says : List ℕ → Verdict → Type 0
 Says file Reads = (c : Contents) × Rules c × (file ≡ layoutOf c)
 Says file (Refused number section) = Refuses file number section
 
-module _ (file : List ℕ) where
-  by-word : (s t : System) (m : List ℤ) → SystemRules s → SystemRules t → MatrixRules m → (start : ℕ) (bytes : List ℕ) → Bytes bytes →
-      file ≡ systemBytes s ++ (systemBytes t ++ (matrixBytes m ++ bytes)) → Says file (wordRead bytes start s t m .verdict)
-  unfolding wordRead layoutOf
-  by-word s t m h k l start bytes b e = by (wordNumber bytes) (word-says bytes b)
-    where
-      by : (n : ℕ) → WordSays bytes n → Says file (judged 3 n (record {
-        verdict = Reads;
-        job = record { input = s; output = t; matrix = m; word = record { start = start + 2; length = countOf bytes } };
-      }) .verdict)
-      by zero w = (
-        record { input = s; output = t; matrix = m; word = drop 2 bytes },
-        record { input = h; output = k; matrix = l; word = record { short = w .0; bytes = drop-bytes b 2 } },
-        e ∙ ap (λ (r : List ℕ). systemBytes s ++ (systemBytes t ++ (matrixBytes m ++ r))) (w .1),
-      )
-      by (suc n) w = Refuses.in-word h k l e w
+pub read-says : (file : List ℕ) → Bytes file → Says file (readOf file .verdict)
+unfolding readOf readingOf
+read-says file b = by (readOf file) (exact .says file 0 b)
+  where
+    by : (r : Reading) → FileSays job answer refused file 0 r → Says file (r .verdict)
+    by r (reads p k e) = (contentsOf p, kept-rules p k, e ∙ same-layout (contentsOf p))
+    by r (refuses number section w) = w
 
-  by-matrix : (s t : System) → SystemRules s → SystemRules t → (start : ℕ) (bytes : List ℕ) → Bytes bytes →
-      file ≡ systemBytes s ++ (systemBytes t ++ bytes) → Says file (matrixRead bytes start s t .verdict)
-  unfolding matrixRead
-  by-matrix s t h k start bytes b e = by (matrixSection bytes .number) (matrix-says bytes b)
-    where
-      by : (n : ℕ) → MatrixSays bytes (matrixSection bytes .matrix) n →
-          Says file (judged 2 n (wordRead (drop 10 bytes) (start + 10) s t (matrixSection bytes .matrix)) .verdict)
-      by zero w =
-          by-word s t (matrixSection bytes .matrix) h k (w .0) (start + 10) (drop 10 bytes) (drop-bytes b 10)
-          (e ∙ ap (λ (r : List ℕ). systemBytes s ++ (systemBytes t ++ r)) (w .1))
-      by (suc n) w = Refuses.in-matrix h k e w
-
-  by-output : (s : System) → SystemRules s → (start : ℕ) (bytes : List ℕ) → Bytes bytes → file ≡ systemBytes s ++ bytes → Says file (outputRead bytes start s .verdict)
-  unfolding outputRead
-  by-output s h start bytes b e = by (systemSection bytes .number) (system-says bytes b)
-    where
-      by : (n : ℕ) → SystemSays bytes (systemSection bytes .system) n →
-          Says file (judged 1 n (matrixRead (drop (systemSize bytes) bytes) (start + systemSize bytes) s (systemSection bytes .system)) .verdict)
-      by zero w =
-          by-matrix s (systemSection bytes .system) h (w .0) (start + systemSize bytes) (drop (systemSize bytes) bytes) (drop-bytes b (systemSize bytes))
-          (e ∙ ap (λ (r : List ℕ). systemBytes s ++ r) (w .1))
-      by (suc n) w = Refuses.in-output h e w
-
-  pub read-says : Bytes file → Says file (readOf file .verdict)
-  unfolding readOf
-  read-says b = by (systemSection file .number) (system-says file b)
-    where
-      by : (n : ℕ) → SystemSays file (systemSection file .system) n →
-          Says file (judged 0 n (outputRead (drop (systemSize file) file) (systemSize file) (systemSection file .system)) .verdict)
-      by zero w =
-          by-output (systemSection file .system) (w .0) (systemSize file) (drop (systemSize file) file) (drop-bytes b (systemSize file)) (w .1)
-      by (suc n) w = Refuses.in-input w
+-- and what is so is answered
+pub refuses-read : (file : List ℕ) (number section : ℕ) → Refuses file number section → readOf file ≡ refused number section
+unfolding readOf
+refuses-read file number section r = exact .said file 0 _ (refuses number section r)
 
 -- ---- exactly
 
@@ -173,25 +97,57 @@ refuses-exactly file b number section = (
 pub refused-no-job : (file : List ℕ) → Bytes file → (number section : ℕ) → readOf file .verdict ≡ Refused number section → readOf file ≡ refused number section
 refused-no-job file b number section e = refuses-read file number section (refuses-exactly file b number section .0 e)
 
+module _ (c : Contents) (h : Rules c) where
+  -- all that stands before the word's bytes
+  abbrev front : List ℕ
+  front = systemBytes (c .input) ++ (systemBytes (c .output) ++ (matrixBytes (c .matrix) ++ twoBytes (length (c .word))))
+
+  layout-is : layoutOf c ≡ front ++ c .word
+  layout-is =
+      let m = matrixBytes (c .matrix) in
+      let o = systemBytes (c .output) in
+      let t = twoBytes (length (c .word)) in
+      sym (append-assoc (systemBytes (c .input)) (o ++ (m ++ t)) (c .word) ∙
+      ap (λ (l : List ℕ). systemBytes (c .input) ++ l) (append-assoc o (m ++ t) (c .word) ∙ ap (λ (l : List ℕ). o ++ l) (append-assoc m t (c .word))))
+
+  front-length : length front ≡ wordStart c
+  front-length =
+      let k = rules-kept c h in
+      let m = matrixBytes (c .matrix) in
+      let o = systemBytes (c .output) in
+      omega (
+        arith,
+        length-append (systemBytes (c .input)) (o ++ (m ++ twoBytes (length (c .word)))),
+        length-append o (m ++ twoBytes (length (c .word))),
+        length-append m (twoBytes (length (c .word))),
+        system-lawful .said (c .input) (k .0 .sayable) .0 .size,
+        system-lawful .said (c .output) (k .1 .0 .sayable) .0 .size,
+        matrix-lawful .said (c .matrix) (k .1 .1 .0 .sayable) .0 .size,
+      )
+
+  pub layout-length : length (layoutOf c) ≡ wordStart c + length (c .word)
+  layout-length = omega (arith, ap length layout-is, length-append front (c .word), front-length)
+
+  pub layout-reads : ReadsAs (layoutOf c) c
+  unfolding readOf
+  layout-reads = record {
+    answer = exact .said (layoutOf c) 0 _ (reads (partsOf c) (rules-kept c h) (sym (same-layout c)));
+    word = ap (λ (l : List ℕ). take (length (c .word)) (drop (wordStart c) l)) layout-is ∙
+        ap (take (length (c .word))) (drop-at front (c .word) (wordStart c) front-length) ∙ take-length (c .word);
+  }
+
 -- two contents with one answer and one word are the same
-pub one-contents : (file : List ℕ) {c d : Contents} → ReadsAs file c → ReadsAs file d → c ≡ d
+one-contents : (file : List ℕ) {c d : Contents} → ReadsAs file c → ReadsAs file d → c ≡ d
 unfolding readingOf
-one-contents file {c} {d} p q = λ i. record { input = inputs i; output = outputs i; matrix = matrices i; word = words i }
+one-contents file {c} {d} p q = λ i. record {
+  input = e i .job .input;
+  output = e i .job .output;
+  matrix = e i .job .matrix;
+  word = (sym (p .word) ∙ (λ j. take (e j .job .word .length) (drop (e j .job .word .start) file)) ∙ q .word) i;
+}
   where
     e : readingOf c ≡ readingOf d
     e = sym (p .answer) ∙ q .answer
-
-    inputs : c .input ≡ d .input
-    inputs = ap (λ (r : Reading). r .job .input) e
-
-    outputs : c .output ≡ d .output
-    outputs = ap (λ (r : Reading). r .job .output) e
-
-    matrices : c .matrix ≡ d .matrix
-    matrices = ap (λ (r : Reading). r .job .matrix) e
-
-    words : c .word ≡ d .word
-    words = sym (p .word) ∙ (λ i. take (e i .job .word .length) (drop (e i .job .word .start) file)) ∙ q .word
 
 pub reads-exactly : (file : List ℕ) → Bytes file → (c : Contents) → ReadsAs file c ↔ (Rules c × (file ≡ layoutOf c))
 unfolding readingOf
@@ -201,3 +157,33 @@ reads-exactly file b c = (
       subst (λ (d : Contents). Rules d × (file ≡ layoutOf d)) (one-contents file there r) (w .1, w .2),
   λ k. subst (λ (f : List ℕ). ReadsAs f c) (sym (k .1)) (layout-reads c (k .0)),
 )
+
+-- a file that reads is a job's layout, and the job is what is answered
+pub record Laid (file : List ℕ) : Type 0 where
+  pub contents : Contents
+  pub rules : Rules contents
+  pub layout : file ≡ layoutOf contents
+  pub answer : readOf file ≡ readingOf contents
+
+pub reads-laid : (file : List ℕ) → Bytes file → readOf file .verdict ≡ Reads → Laid file
+reads-laid file b e =
+    let w = subst (Says file) e (read-says file b) in
+    record { contents = w .0; rules = w .1; layout = w .2; answer = ap readOf (w .2) ∙ layout-reads (w .0) (w .1) .answer }
+
+-- ---- how long a job file is
+
+-- "The largest file is 4,624 bytes."
+pub largest : (c : Contents) → Rules c → length (layoutOf c) ≤ 4624
+largest c h = omega (arith, exact .fits (partsOf c) (rules-kept c h), ap length (same-layout c))
+
+-- 4,625 bytes settle every file: a program that reads no more gives the right answer, however long its input is
+pub settled : (file : List ℕ) → readOf (take 4625 file) ≡ readOf file
+unfolding readOf
+settled file = exact .settled file 0 4625 (omega arith)
+
+-- the word of a file that reads lies inside the file
+pub word-inside : (file : List ℕ) → Bytes file → readOf file .verdict ≡ Reads → readOf file .job .word .start + readOf file .job .word .length ≤ length file
+unfolding readingOf
+word-inside file b e =
+    let w = reads-laid file b e in
+    subst (λ (a : Reading). a .job .word .start + a .job .word .length ≤ length file) (sym (w .answer)) (omega (arith, ap length (w .layout), layout-length (w .contents) (w .rules)))

@@ -3,15 +3,16 @@
 -- (count 0..4096, one byte a digit). Nothing follows."
 use mathlib.Core.Path.{_≡_}
 use mathlib.Core.List.{List, [], _∷_, _++_}
-use Prim.Native.Nat.{ℕ, _+_, _*_, _-_, _/_, _%_, _≤_, _<_}
-use lib.ListN.{length, take, getD}
+use Prim.Native.Nat.{ℕ, _*_, _-_, _≤_}
+use lib.ListN.{length, take}
 use lib.IntN.{ℤ, pos, negsuc}
 use lib.Signed.{_<ℤ_}
 use Rattle.whole.specs.Range.{Within}
 use Rattle.plane.specs.Plane.{determinantOf}
-use Rattle.digits.specs.Admitted.{Admissible}
+use Rattle.admission.specs.Admitted.{Admissible}
 use Rattle.digits.specs.BuiltIn.{filled}
-use Rattle.digits.specs.declared.System.{System}
+use Rattle.digits.specs.Types.{System}
+pub use Rattle.sections.specs.Bytes.{Bytes, twoBytes}
 
 -- what a job is: two systems, a matrix and a word
 pub record Contents : Type 0 where
@@ -19,10 +20,6 @@ pub record Contents : Type 0 where
   pub output : System
   pub matrix : List ℤ
   pub word : List ℕ
-
--- "2 bytes, low byte first"
-abbrev pub twoBytes : ℕ → List ℕ
-twoBytes n = n % 256 ∷ n / 256 ∷ []
 
 -- "two's complement": −1 is 65535, and −32768 is 32768
 abbrev pub complement : ℤ → ℕ
@@ -34,32 +31,32 @@ abbrev pub numbersBytes : List ℤ → List ℕ
 numbersBytes [] = []
 numbersBytes (z ∷ zs) = twoBytes (complement z) ++ numbersBytes zs
 
--- "input system (count of digits, rows of eight signed 16-bit numbers ..)": the rows of the digits that it has
-unfoldable pub systemBytes : System → List ℕ
-systemBytes s = twoBytes (s .count) ++ numbersBytes (take (8 * s .count) (s .rows))
+-- "rows of eight": the numbers of the digits that a system has, row by row
+abbrev pub rowsOf : System → List ℤ
+rowsOf s = take (8 * s .count) (s .rows)
+
+-- "input system (count of digits, rows of eight signed 16-bit numbers ..)", with `twoBytes` for "2 bytes, low byte first"
+abbrev pub systemBytes : System → List ℕ
+systemBytes s = twoBytes (s .count) ++ numbersBytes (rowsOf s)
 
 -- "matrix (count 4, then a b c d as such numbers)"
-unfoldable pub matrixBytes : List ℤ → List ℕ
+abbrev pub matrixBytes : List ℤ → List ℕ
 matrixBytes m = twoBytes 4 ++ numbersBytes m
 
 -- "word (count 0..4096, one byte a digit)"
-unfoldable pub wordBytes : List ℕ → List ℕ
+abbrev pub wordBytes : List ℕ → List ℕ
 wordBytes w = twoBytes (length w) ++ w
 
 -- "Four sections in fixed order .. Nothing follows."
-unfoldable pub layoutOf : Contents → List ℕ
+abbrev pub layoutOf : Contents → List ℕ
 layoutOf c = systemBytes (c .input) ++ (systemBytes (c .output) ++ (matrixBytes (c .matrix) ++ wordBytes (c .word)))
 
 -- ---- the rules for the contents
 
--- a list of bytes, as every slice of bytes is
-pub record Bytes (l : List ℕ) : Type 0 where
-  pub byte : (i : ℕ) → getD l i 0 < 256
-
 -- a system is admitted, and "what is kept for the digits a system hasn't got is 0 when it is read"
 pub record SystemRules (s : System) : Type 0 where
-  pub admissible : Admissible (s .count) (s .rows)
-  pub unused : s .rows ≡ filled (take (8 * s .count) (s .rows))
+  pub admissible : Admissible s
+  pub unused : s .rows ≡ filled (rowsOf s)
 
 -- "Opening takes M with entries in −1000..1000 and determinant above 0"
 pub record MatrixRules (m : List ℤ) : Type 0 where

@@ -1,9 +1,11 @@
 -- Document 01, "Job file" and "Numbers of refusal", as definitions.
---   Layout    the bytes of a job, and the rules for its contents
---   Reading   the judgement of a file, as a computation: what `read` answers
---   Reads     when a file reads as a job
---   Refuses   when each number and section is given, in document 01's words
+--   Layout     the bytes of a job, and the rules for its contents
+--   Sections   the three kinds of section: when each number is given, and how their bytes are judged
+--   Reading    the job file as four sections, and what `read` answers
+--   Reads      when a file reads as a job
+--   Refuses    when a file is refused by a number in a section
 pub mod Layout
+pub mod Sections
 pub mod Reading
 pub mod Reads
 pub mod Refuses

@@ -2,9 +2,12 @@
 ghost use mathlib.Core.Path.{_≡_};
 ghost use Prim.Native.Nat.{_+_, _*_, _<_, _≤_};
 ghost use lib.ListN.{length};
+ghost use Rattle.sections.specs.Bytes.{pairAt};
+ghost use Rattle.sections.specs.Section.{presence as presenceOf};
+ghost use Rattle.sections.specs.Answered.{Answered};
 ghost use Rattle.digits.specs.BuiltIn.{filled};
-ghost use Rattle.jobs.specs.Reading.{pairAt, numberAt, numbersAt, systemRefused, systemSection, matrixRefused};
-ghost use Rattle.jobs.specs.Reading.{matrixSection, wordNumber, refused as refusedOf, wordRead, matrixRead, outputRead, readOf};
+ghost use Rattle.jobs.specs.Sections.{numberAt, numbersIn, system as systemOf, matrix as matrixOf};
+ghost use Rattle.jobs.specs.Reading.{refused as refusedOf, readOf};
 use digits::System;
 
 // Where the word stands in the file: its bytes stay there, and are not tested here.
@@ -33,14 +36,16 @@ pub struct Reading {
     pub job: Job,
 }
 
-// What judging one section answers: the number of the refusal, or 0, and what was read.
+// What reading one section answers: the number of the refusal, or 0; and then how many bytes the section has, and its value.
 pub struct SystemSection {
     pub number: u8,
+    pub size: usize,
     pub system: System,
 }
 
 pub struct MatrixSection {
     pub number: u8,
+    pub size: usize,
     pub matrix: [i64; 4],
 }
 
@@ -70,114 +75,94 @@ fn number_at(bytes: &[u8], p: usize) -> i16
     (u as i64 - 65536) as i16
 }
 
-// The first k numbers behind a section's count, and 0 in the places that are left.
+// A section's count is there (1), it is right, and as many bytes are there as it asks for (1): the number of the refusal, or 0.
+fn presence(bytes: &[u8], least: usize, most: usize, wrong: u8, unit: usize) -> u8
+    requires { ⌜ unit ≤ 16 ⌝ }
+    ensures { λ r. ⌜ r ≡ presenceOf (record { least = least; most = most; wrong = wrong; unit = unit }) (now (bytes .entry)) ⌝ }
+{
+    if bytes.len() < 2 {
+        return 1;
+    }
+    let count = pair_at(bytes, 0);
+    if count < least {
+        return wrong;
+    }
+    if most < count {
+        return wrong;
+    }
+    if bytes.len() < 2 + unit * count {
+        return 1;
+    }
+    0
+}
+
+// All numbers of the bytes become the rows of a system, with 0 in the places that are left.
 fn rows_in(bytes: &[u8], k: usize) -> [i16; 128]
-    requires { ⌜ (2 + 2 * k ≤ length (now bytes)) × (k ≤ 128) ⌝ }
-    ensures { λ r. ⌜ r ≡ filled (numbersAt (now (bytes .entry)) 2 k) ⌝ }
+    requires { ⌜ (length (now bytes) ≡ 2 * k) × (k ≤ 128) ⌝ }
+    ensures { λ r. ⌜ r ≡ filled (numbersIn (now (bytes .entry))) ⌝ }
 {
     let mut rows = [0i16; 128];
     let mut i = 0;
     while i < k {
-        rows[i] = number_at(bytes, 2 + 2 * i);
+        rows[i] = number_at(bytes, 2 * i);
         i += 1;
     }
     rows
 }
 
-fn no_system(number: u8) -> SystemSection
-    ensures { λ r. ⌜ r ≡ systemRefused number ⌝ }
-{
-    let system = System {
-        count: 0,
-        rows: [0i16; 128],
-    };
-    SystemSection { number, system }
-}
-
 // A system's section, of the bytes from its count on.
 fn system_section(bytes: &[u8]) -> SystemSection
-    ensures { λ r. ⌜ r ≡ systemSection (now (bytes .entry)) ⌝ }
+    ensures { λ r. ⌜ Answered systemOf (now (bytes .entry)) (r .number) (r .size) (r .system) ⌝ }
 {
-    if bytes.len() < 2 {
-        return no_system(1);
+    let number = presence(bytes, 1, 16, 3, 16);
+    if number != 0 {
+        let system = System {
+            count: 0,
+            rows: [0i16; 128],
+        };
+        return SystemSection {
+            number,
+            size: 0,
+            system,
+        };
     }
     let count = pair_at(bytes, 0);
-    if count == 0 {
-        return no_system(3);
-    }
-    if 16 < count {
-        return no_system(3);
-    }
-    if bytes.len() < 2 + 16 * count {
-        return no_system(1);
-    }
-    let rows = rows_in(bytes, 8 * count);
-    let number = digits::refusal_number(digits::judged(count, &rows));
+    let size = 2 + 16 * count;
+    let rows = rows_in(&bytes[2..size], 8 * count);
+    let number = admission::refusal_number(admission::admission_of(count, &rows));
     let system = System { count, rows };
-    SystemSection { number, system }
-}
-
-fn no_matrix(number: u8) -> MatrixSection
-    ensures { λ r. ⌜ r ≡ matrixRefused number ⌝ }
-{
-    MatrixSection {
+    SystemSection {
         number,
-        matrix: [0, 0, 0, 0],
+        size,
+        system,
     }
-}
-
-// The four numbers of a matrix, behind its count.
-fn matrix_in(bytes: &[u8]) -> [i64; 4]
-    requires { ⌜ 10 ≤ length (now bytes) ⌝ }
-    ensures { λ r. ⌜ r ≡ numbersAt (now (bytes .entry)) 2 4 ⌝ }
-{
-    [
-        number_at(bytes, 2) as i64,
-        number_at(bytes, 4) as i64,
-        number_at(bytes, 6) as i64,
-        number_at(bytes, 8) as i64,
-    ]
 }
 
 // A matrix's section, of the bytes from its count on.
 fn matrix_section(bytes: &[u8]) -> MatrixSection
-    ensures { λ r. ⌜ r ≡ matrixSection (now (bytes .entry)) ⌝ }
+    ensures { λ r. ⌜ Answered matrixOf (now (bytes .entry)) (r .number) (r .size) (r .matrix) ⌝ }
 {
-    if bytes.len() < 2 {
-        return no_matrix(1);
-    }
-    if pair_at(bytes, 0) != 4 {
-        return no_matrix(4);
-    }
-    if bytes.len() < 10 {
-        return no_matrix(1);
-    }
-    let matrix = matrix_in(bytes);
-    let number = unary::opening_number(unary::opening_of(matrix));
+    let number = presence(bytes, 4, 4, 4, 2);
     if number != 0 {
-        return no_matrix(number);
+        return MatrixSection {
+            number,
+            size: 0,
+            matrix: [0, 0, 0, 0],
+        };
     }
-    MatrixSection { number: 0, matrix }
-}
-
-// A word's section, of the bytes from its count on: the number of the refusal, or 0.
-fn word_number(bytes: &[u8]) -> u8
-    ensures { λ r. ⌜ r ≡ wordNumber (now (bytes .entry)) ⌝ }
-{
-    if bytes.len() < 2 {
-        return 1;
+    let numbers = &bytes[2..10];
+    let matrix = [
+        number_at(numbers, 0) as i64,
+        number_at(numbers, 2) as i64,
+        number_at(numbers, 4) as i64,
+        number_at(numbers, 6) as i64,
+    ];
+    let number = unary::opening_number(unary::opening_of(matrix));
+    MatrixSection {
+        number,
+        size: 10,
+        matrix,
     }
-    let count = pair_at(bytes, 0);
-    if 4096 < count {
-        return 5;
-    }
-    if bytes.len() < 2 + count {
-        return 1;
-    }
-    if 2 + count < bytes.len() {
-        return 2;
-    }
-    0
 }
 
 // No job: all of it is 0.
@@ -208,19 +193,42 @@ fn refused(number: u8, section: u8) -> Reading
     }
 }
 
-// The last section, the word, which starts at a place of the file; and the job, if it reads.
-fn word_read(bytes: &[u8], start: usize, input: System, output: System, matrix: [i64; 4]) -> Reading
-    requires { ⌜ start ≤ 526 ⌝ }
-    ensures { λ r. ⌜ r ≡ wordRead (now (bytes .entry)) start input output matrix ⌝ }
+// Reads a job file, section by section, in one pass. Of any bytes at all.
+pub fn read(file: &[u8]) -> Reading
+    ensures { λ r. ⌜ r ≡ readOf (now (file .entry)) ⌝ }
 {
-    let number = word_number(bytes);
+    let first = system_section(file);
+    let number = first.number;
+    if number != 0 {
+        return refused(number, 0);
+    }
+    let a = first.size;
+    let second = system_section(&file[a..]);
+    let number = second.number;
+    if number != 0 {
+        return refused(number, 1);
+    }
+    let b = a + second.size;
+    let third = matrix_section(&file[b..]);
+    let number = third.number;
+    if number != 0 {
+        return refused(number, 2);
+    }
+    let c = b + third.size;
+    let rest = &file[c..];
+    let number = presence(rest, 0, 4096, 5, 1);
     if number != 0 {
         return refused(number, 3);
     }
-    let word = Word {
-        start: start + 2,
-        length: pair_at(bytes, 0),
-    };
+    let length = pair_at(rest, 0);
+    if 2 + length < rest.len() {
+        return refused(2, 3);
+    }
+    let input = first.system;
+    let output = second.system;
+    let matrix = third.matrix;
+    let start = c + 2;
+    let word = Word { start, length };
     let job = Job {
         input,
         output,
@@ -231,47 +239,4 @@ fn word_read(bytes: &[u8], start: usize, input: System, output: System, matrix: 
         verdict: Verdict::Reads,
         job,
     }
-}
-
-// The third section, the matrix, and what follows it.
-fn matrix_read(bytes: &[u8], start: usize, input: System, output: System) -> Reading
-    requires { ⌜ start ≤ 516 ⌝ }
-    ensures { λ r. ⌜ r ≡ matrixRead (now (bytes .entry)) start input output ⌝ }
-{
-    let section = matrix_section(bytes);
-    let number = section.number;
-    if number != 0 {
-        return refused(number, 2);
-    }
-    let matrix = section.matrix;
-    word_read(&bytes[10..], start + 10, input, output, matrix)
-}
-
-// The second section, the output system, and what follows it.
-fn output_read(bytes: &[u8], start: usize, input: System) -> Reading
-    requires { ⌜ start ≤ 258 ⌝ }
-    ensures { λ r. ⌜ r ≡ outputRead (now (bytes .entry)) start input ⌝ }
-{
-    let section = system_section(bytes);
-    let number = section.number;
-    if number != 0 {
-        return refused(number, 1);
-    }
-    let output = section.system;
-    let size = 2 + 16 * output.count;
-    matrix_read(&bytes[size..], start + size, input, output)
-}
-
-// Reads a job file, section by section, in one pass. Of any bytes at all.
-pub fn read(file: &[u8]) -> Reading
-    ensures { λ r. ⌜ r ≡ readOf (now (file .entry)) ⌝ }
-{
-    let section = system_section(file);
-    let number = section.number;
-    if number != 0 {
-        return refused(number, 0);
-    }
-    let input = section.system;
-    let size = 2 + 16 * input.count;
-    output_read(&file[size..], size, input)
 }

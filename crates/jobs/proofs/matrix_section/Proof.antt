@@ -1,64 +1,60 @@
--- `jobs::matrix_section` meets its contract: one law for each way that a matrix's section can go, and its contents judged as opening judges them.
+-- `jobs::matrix_section` meets its contract: its presence decides, and then its four numbers, as opening judges them.
 use borrow.Author.Needs.{needs}
-use mathlib.Core.Path.{_≡_, refl, sym, ap, _∙_}
+use mathlib.Core.Path.{_≡_, sym, ap, _∙_}
 use mathlib.Core.List.{List}
-use Prim.Native.Nat.{ℕ, zero, suc}
+use Prim.Native.Nat.{ℕ, _*_}
 use native.Mathlib.Omega.{arith}
-use lib.IntN.{ℤ}
+use lib.ListN.{take, drop, length-drop}
+use lib.Seq.{length-take-le}
 use denote.Ref.{now}
-use Rattle.unary.specs.State.{openingNumber, openingOf}
-use Rattle.jobs.specs.Reading.{matrixRefused, matrixNumbered, matrixJudged, matrixSection}
-use Rattle.jobs.proofs.Sections.{matrix-no-count, matrix-wrong-count, matrix-cut-off, matrix-whole}
+use Rattle.sections.specs.Bytes.{countOf}
+use Rattle.sections.specs.Section.{Present}
+use Rattle.sections.proofs.Laws.{present, not-there, judged}
+use Rattle.whole.proofs.Laws.{element-16, widen-fits, widen-back}
+use Rattle.plane.proofs.Laws.{four-equal}
+use Rattle.unary.specs.Opening.{openingNumber}
+use Rattle.jobs.specs.Sections.{numbersIn, matrix}
+use Rattle.jobs.proofs.Numbers.{four-numbers}
 use Rattle.jobs.proofs.matrix_section.Statement.{statement}
 use Rattle.jobs.proofs.matrix_section.Tie as tie
 
-returns-3 : tie.Need-returns-3
-returns-3 c =
-    let p = c .before .before .before in
-    c .no-matrix3 .ensures ∙ sym (matrix-cut-off (now (p .before .before .before .args .bytes)) (omega arith) (omega (arith, p .pair-at .ensures)) (omega arith))
+there : (c : tie.Else1) → Present (matrix .limits) (now (c .before .before .before .args .bytes))
+there c = present (matrix .limits) (now (c .before .before .before .args .bytes)) (omega arith) (c .before .presence .ensures) (c .if1 .left)
 
--- a whole section: the four numbers decide
-whole : (c : tie.After-matrix-in) → matrixSection (now (c .before .before .before .before .before .before .args .bytes)) ≡ matrixJudged (c .matrix-in .result)
-whole c =
-    let p = c .before .before .before in
-    matrix-whole (now (p .before .before .before .args .bytes)) (omega (arith, p .pair-at .ensures)) (omega arith) ∙ ap matrixJudged (sym (c .matrix-in .ensures))
-
--- they are judged as opening judges them
-number-is : (c : tie.After-opening-number) → let m = c .before .before .matrix-in .result in c .opening-number .result ≡ openingNumber (openingOf m)
-number-is c = c .opening-number .ensures ∙ ap openingNumber (c .before .opening-of .ensures)
-
-judged : (c : tie.After-opening-number) → let m = c .before .before in
-    matrixSection (now (m .before .before .before .before .before .before .args .bytes)) ≡ matrixNumbered (m .matrix-in .result) (c .opening-number .result)
-judged c = let m = c .before .before in whole m ∙ ap (matrixNumbered (m .matrix-in .result)) (sym (number-is c))
-
-refused-by : (m : List ℤ) (n : ℕ) → (n ≡ 0 → ⊥) → matrixRefused n ≡ matrixNumbered m n
-refused-by m zero f = absurd (f refl)
-refused-by m (suc n) f = refl
-
-returns-4 : tie.Need-returns-4
-returns-4 c =
-    let n = c .before .before in
-    c .no-matrix4 .ensures ∙ refused-by (n .before .before .matrix-in .result) (n .opening-number .result) (c .before .if4 .taken) ∙ sym (judged n)
-
-returns-5 : tie.Need-returns-5
-returns-5 c = let n = c .before in sym (judged n ∙ ap (matrixNumbered (n .before .before .matrix-in .result)) (c .if4 .left))
+returns-2 : tie.Need-returns-2
+returns-2 c =
+    let d = c .before .before in
+    let e = d .before .before .before .before .before in
+    let h = there e in
+    let b = now (e .before .before .before .args .bytes) in
+    let n : countOf b ≡ 4 = omega (arith, h .some, h .few) in
+    let numbers = four-equal
+    (widen-back (element-16 _ (d .before .before .before .number-at .ok)) ∙ d .before .before .before .number-at .ensures)
+    (widen-back (element-16 _ (d .before .before .number-at2 .ok)) ∙ d .before .before .number-at2 .ensures)
+    (widen-back (element-16 _ (d .before .number-at3 .ok)) ∙ d .before .number-at3 .ensures)
+    (widen-back (element-16 _ (d .number-at4 .ok)) ∙ d .number-at4 .ensures) in
+    judged matrix h (omega (arith, n))
+    (numbers ∙ four-numbers (take 8 (drop 2 b)) (length-take-le 8 (drop 2 b) (omega (arith, h .fits, n, length-drop 2 b))) ∙
+    ap (λ (k : ℕ). numbersIn (take (2 * k) (drop 2 b))) (sym n))
+    (c .opening-number .ensures ∙ ap openingNumber (c .before .opening-of .ensures))
 
 pub matrix-section-spec : {M : Type 1} → statement M
 matrix-section-spec =
     tie.close
     (tie.spec
     (λ c κs. search needs)
-    (λ c. c .no-matrix .ensures ∙ sym (matrix-no-count (now (c .before .before .before .args .bytes)) (omega arith)))
+    (λ c. not-there matrix (c .before .presence .ensures) (c .if1 .taken))
+    (λ c. search needs)
+    (λ c. search needs)
+    (λ c. omega (arith, there c .some, there c .fits))
+    (λ c κs. search needs)
+    (λ c. widen-fits (element-16 (c .number-at .result) (c .number-at .ok)))
+    (λ c κs. search needs)
+    (λ c. widen-fits (element-16 (c .number-at2 .result) (c .number-at2 .ok)))
+    (λ c κs. search needs)
+    (λ c. widen-fits (element-16 (c .number-at3 .result) (c .number-at3 .ok)))
+    (λ c κs. search needs)
+    (λ c. widen-fits (element-16 (c .number-at4 .result) (c .number-at4 .ok)))
     (λ c κs. search needs)
     (λ c κs. search needs)
-    (λ c. let p = c .before .before in
-    c .no-matrix2 .ensures ∙
-    sym (matrix-wrong-count (now (p .before .before .before .args .bytes)) (omega arith) (λ e. c .before .if2 .taken (p .pair-at .ensures .0 ∙ e))))
-    (λ c κs. search needs)
-    returns-3
-    (λ c κs. search needs)
-    (λ c κs. search needs)
-    (λ c κs. search needs)
-    (λ c κs. search needs)
-    returns-4
-    returns-5)
+    returns-2)

@@ -6,14 +6,11 @@ use lib.IntN.{ℤ, pos, _-ℤ_}
 use mir.Syntax.{w16, w64}
 use mir.Val.{SFits, toZ}
 use mir.Facts.{toZ-pos}
-use Rattle.whole.proofs.Machine.{unsigned, literal, sub-ok, narrow-fits, narrow-back}
-use Rattle.jobs.specs.Reading.{signed}
+use Rattle.whole.proofs.Laws.{unsigned, literal, sub-ok, narrow-fits, narrow-back}
+use Rattle.jobs.specs.Sections.{signed}
 use Rattle.jobs.proofs.Numbers.{signed-low, signed-high, less}
 use Rattle.jobs.proofs.number_at.Statement.{statement}
 use Rattle.jobs.proofs.number_at.Tie as tie
-
-returns : tie.Need-returns
-returns c = toZ-pos w16 (c .if1 .taken) ∙ signed-low _ (c .if1 .taken) ∙ ap signed (c .before .pair-at .ensures .0)
 
 -- what the cast to a signed word holds
 wide : (c : tie.Else1) → toZ w64 (c .before .pair-at .result) ≡ pos (c .before .pair-at .result)
@@ -22,21 +19,14 @@ wide c = unsigned (c .before .pair-at .result) 65535 (omega arith) tt .is
 fits : (c : tie.Else1) → SFits w16 (toZ w64 (c .before .pair-at .result) -ℤ pos 65536)
 fits c = rw (wide c, less (c .before .pair-at .result) (omega arith)) (record { sfits = omega arith })
 
-sub-result : tie.Need-sub-result
-sub-result c = sub-ok (unsigned (c .before .pair-at .result) 65535 (omega arith) tt) (literal (pos 65536)) tt
-
-returns-2 : tie.Need-returns-2
-returns-2 c =
-    narrow-back (fits c) ∙ ap (λ (z : ℤ). z -ℤ pos 65536) (wide c) ∙ signed-high _ (c .if1 .left) ∙ ap signed (c .before .pair-at .ensures .0)
-
 pub number-at-spec : {M : Type 1} → statement M
 number-at-spec =
     tie.close
     (tie.spec
     (λ c κs. search needs)
     (λ c. search needs)
-    returns
+    (λ c. toZ-pos w16 (c .if1 .taken) ∙ signed-low _ (c .if1 .taken) ∙ ap signed (c .before .pair-at .ensures .0))
     (λ c. search needs)
-    sub-result
+    (λ c. sub-ok (unsigned (c .before .pair-at .result) 65535 (omega arith) tt) (literal (pos 65536)) tt)
     (λ c. narrow-fits (fits c))
-    returns-2)
+    (λ c. narrow-back (fits c) ∙ ap (λ (z : ℤ). z -ℤ pos 65536) (wide c) ∙ signed-high _ (c .if1 .left) ∙ ap signed (c .before .pair-at .ensures .0)))

@@ -1,55 +1,52 @@
--- `jobs::system_section` meets its contract: one law for each way that a system's section can go. A whole section is judged as `digits::judged` judges it.
+-- `jobs::system_section` meets its contract: its presence decides, and then its rows, as admission judges them.
 use borrow.Author.Needs.{needs}
 use mathlib.Core.Path.{_≡_, sym, ap, _∙_}
-use Prim.Native.Nat.{ℕ, _*_}
+use Prim.Native.Nat.{ℕ, _+_, _*_, _-_, _≤_}
 use native.Mathlib.Omega.{arith}
+use lib.ListN.{take, drop, length-drop}
+use lib.Seq.{length-take-le}
 use denote.Ref.{now}
-use Rattle.digits.specs.Admission.{refusalNumber}
+use Rattle.sections.specs.Bytes.{countOf}
+use Rattle.sections.specs.Section.{Present}
+use Rattle.sections.proofs.Laws.{present, not-there, judged}
+use Rattle.admission.specs.Admission.{refusalNumber}
 use Rattle.digits.specs.BuiltIn.{filled}
-use Rattle.jobs.specs.Reading.{countOf, numbersAt, systemIn, systemJudged}
-use Rattle.jobs.proofs.Sections.{system-no-count, system-none, system-many, system-cut-off, system-whole}
+use Rattle.jobs.specs.Sections.{numbersIn, system}
 use Rattle.jobs.proofs.system_section.Statement.{statement}
 use Rattle.jobs.proofs.system_section.Tie as tie
 
-returns-4 : tie.Need-returns-4
-returns-4 c =
-    let p = c .before .before .before .before in
-    let b = now (p .before .before .before .args .bytes) in
-    let n = p .pair-at .ensures in
-    c .no-system4 .ensures ∙ sym (system-cut-off b (omega arith) (omega (arith, n)) (omega (arith, n)) (omega (arith, n)))
+there : (c : tie.Else1) → Present (system .limits) (now (c .before .before .before .args .bytes))
+there c = present (system .limits) (now (c .before .before .before .args .bytes)) (omega arith) (c .before .presence .ensures) (c .if1 .left)
 
-returns-5 : tie.Need-returns-5
-unfolding systemIn
-returns-5 c =
+returns-2 : tie.Need-returns-2
+returns-2 c =
     let r = c .before .before .before in
-    let p = r .before .before .before .before in
-    let b = now (p .before .before .before .args .bytes) in
-    let n = p .pair-at .result in
-    let e : n ≡ countOf b = p .pair-at .ensures .0 in
-    let same : r .rows-in .result ≡ systemIn b .rows = r .rows-in .ensures ∙ ap (λ (k : ℕ). filled (numbersAt b 2 (8 * k))) e in
-    let number = c .refusal-number .ensures ∙ ap refusalNumber (c .before .judged .ensures) in
-    (λ i. record { number = number i; system = record { count = n; rows = r .rows-in .result } }) ∙
-    (λ i. systemJudged (record { count = e i; rows = same i })) ∙
-    sym (system-whole b (omega arith) (omega arith) (omega arith))
+    let p = r .before .before in
+    let n = p .pair-at .ensures .0 in
+    let b = now (p .before .before .before .before .args .bytes) in
+    let size : 2 + 16 * p .pair-at .result - 2 ≡ 16 * countOf b = omega (arith, n) in
+    let rows = r .rows-in .ensures ∙ ap (λ (k : ℕ). filled (numbersIn (take k (drop 2 b)))) size in
+    judged system (there (p .before)) (ap (λ (k : ℕ). 2 + 16 * k) n) (λ i. record { count = n i; rows = rows i })
+    (c .refusal-number .ensures ∙ ap refusalNumber (c .before .admission-of .ensures))
 
 pub system-section-spec : {M : Type 1} → statement M
 system-section-spec =
     tie.close
     (tie.spec
     (λ c κs. search needs)
-    (λ c. c .no-system .ensures ∙ sym (system-no-count (now (c .before .before .before .args .bytes)) (omega arith)))
-    (λ c κs. search needs)
-    (λ c κs. search needs)
-    (λ c. c .no-system2 .ensures ∙ sym (system-none (now (c .before .before .before .before .before .args .bytes)) (omega arith) (omega arith)))
-    (λ c κs. search needs)
-    (λ c. c .no-system3 .ensures ∙ sym (system-many (now (c .before .before .before .before .before .before .args .bytes)) (omega arith) (omega arith)))
+    (λ c. not-there system (c .before .presence .ensures) (c .if1 .taken))
+    (λ c κs. omega (arith, there c .fits))
     (λ c. search needs)
     (λ c. search needs)
-    (λ c κs. search needs)
-    returns-4
+    (λ c. search needs)
+    (λ c. search needs)
+    (λ c. omega (arith, there (c .before) .fits, c .pair-at .ensures))
+    (λ c. search needs)
+    (λ c κs. let h = there (c .before .before) in let n = c .before .pair-at .ensures in
+    let b = drop 2 (now (c .before .before .before .before .before .args .bytes)) in
+    let k = length-take-le (2 + 16 * c .before .pair-at .result - 2) b (omega (arith, h .fits, n, length-drop 2 (now (c .before .before .before .before .before .args .bytes)))) in
+    (omega (arith, k), omega (arith, h .few, n)))
     (λ c. search needs)
     (λ c κs. search needs)
-    (λ c. search needs)
     (λ c κs. search needs)
-    (λ c κs. search needs)
-    returns-5)
+    returns-2)
