@@ -1,11 +1,14 @@
--- What `respond` promises: the program's text stands at the end of the buffer, and the bytes for the output digits hold what the run left there.
+-- What `respond` promises: the program's text stands at the front of the buffer, and the bytes for the output digits hold what the run left there.
 use mathlib.Core.Path.{_≡_}
-use mathlib.Core.List.{List}
-use Prim.Native.Nat.{ℕ}
-use lib.ListN.{length}
-use Rattle.printed.specs.Place.{Put}
+use mathlib.Core.List.{List, _++_}
+use Prim.Native.Nat.{ℕ, _≤_}
+use lib.ListN.{length, take, drop}
 use Rattle.printed.specs.Text.{printed, filledBy}
 
 pub record Responds (file room room′ old new : List ℕ) (r : ℕ) : Type 0 where
-  pub text : Put old (length old) (printed file room) new r
+  pub size : r ≡ length (printed file room)
+  pub text : new ≡ printed file room ++ drop r old
   pub digits : room′ ≡ filledBy file room
+  -- so many bytes are there: a program that writes them needs no proof of its own
+  pub inside : r ≤ length new
+  pub front : r ≡ length (take r new)

@@ -1,52 +1,42 @@
--- `printed::put_state` meets its contract: the held digit and the four entries, each in front of the one before.
+-- `printed::put_state` meets its contract: the four entries and the held digit.
 use borrow.Author.Needs.{needs}
 use mathlib.Core.Path.{ap}
-use mathlib.Core.List.{_∷_}
-use native.Mathlib.Omega.{arith}
-use Rattle.whole.proofs.Machine.{back-of}
-use Rattle.whole.specs.Range.{at}
-use Rattle.printed.specs.Text.{signedText, stateLine}
-use Rattle.printed.proofs.Places.{put-put, put-as}
+use mathlib.Core.List.{List, [], _∷_, _++_}
+use Prim.Native.Nat.{ℕ, _<_, _^_}
+use lib.IntN.{ℤ}
+use lib.Signed.{mag}
+use mir.Syntax.{w64}
+use mir.Val.{toZ, ofZ}
+use Rattle.whole.proofs.Laws.{back-of}
+use Rattle.text.specs.Wrote.{Wrote}
+use Rattle.text.specs.Number.{signedText}
+use Rattle.text.proofs.Laws.{and-then, wrote-as}
+use Rattle.printed.specs.Text.{stateLine}
 use Rattle.printed.proofs.put_state.Statement.{statement}
 use Rattle.printed.proofs.put_state.Tie as tie
+
+-- an entry, which the machine holds as its bits
+entry : {old new : List ℕ} {at r : ℕ} (z : ℤ) → mag z < 2 ^ 63 → Wrote old at (signedText (toZ w64 (ofZ w64 z)) ++ (32 ∷ [])) 22 new r →
+    Wrote old at (signedText z ++ (32 ∷ [])) 22 new r
+entry z h w = wrote-as (ap (λ (x : ℤ). signedText x ++ (32 ∷ [])) (back-of z h)) w
 
 returns : tie.Need-returns
 unfolding stateLine
 returns c =
-    let e0 = c .before .before in
-    let e1 = e0 .before .before .before .before .before in
-    let e2 = e1 .before .before .before .before .before in
-    let e3 = e2 .before .before .before .before .before in
-    let blank = e3 .before .before .before .before .before in
-    let held = blank .before .before .before .before in
-    let p = held .before .before .before .before in
-    let s = p .before .before .before .before in
-    let l = s .pre .inside in
-    let m = s .args .s .matrix in
-    let a = put-put l (put-put l (p .put .ensures) (held .put-held .ensures .0)) (blank .put2 .ensures) in
-    let b = put-put l a (put-as (ap (λ z. 32 ∷ signedText z) (back-of (at m 3) (e3 .before .put-entry-arg2 .given))) (e3 .put-entry .ensures .0)) in
-    let d = put-put l b (put-as (ap (λ z. 32 ∷ signedText z) (back-of (at m 2) (e2 .before .put-entry-arg4 .given))) (e2 .put-entry2 .ensures .0)) in
-    let e = put-put l d (put-as (ap (λ z. 32 ∷ signedText z) (back-of (at m 1) (e1 .before .put-entry-arg6 .given))) (e1 .put-entry3 .ensures .0)) in (
-      put-put l e (put-as (ap signedText (back-of (at m 0) (e0 .before .put-signed-arg2 .given))) (e0 .put-signed .ensures .0)),
-      omega (
-        arith,
-        p .put .ensures .place,
-        held .put-held .ensures .1,
-        blank .put2 .ensures .place,
-        e3 .put-entry .ensures .1,
-        e2 .put-entry2 .ensures .1,
-        e1 .put-entry3 .ensures .1,
-        e0 .put-signed .ensures .1,
-      ),
-    )
+    let h = c .before .before in
+    let e3 = h .before .before .before .before in
+    let e2 = e3 .before .before .before .before .before in
+    let e1 = e2 .before .before .before .before .before in
+    let e0 = e1 .before .before .before .before .before in
+    and-then (entry _ (e0 .before .put-signed-arg2 .given) (e0 .put-signed .ensures))
+    (and-then (entry _ (e1 .before .put-signed-arg4 .given) (e1 .put-signed2 .ensures))
+    (and-then (entry _ (e2 .before .put-signed-arg6 .given) (e2 .put-signed3 .ensures))
+    (and-then (entry _ (e3 .before .put-signed-arg8 .given) (e3 .put-signed4 .ensures)) (h .put-held .ensures))))
 
 pub put-state-spec : {M : Type 1} → statement M
 put-state-spec =
     tie.close
     (tie.spec
-    (λ c κs. search needs)
-    (λ c κs. search needs)
-    (λ c κs. search needs)
     (λ c. search needs)
     (λ c κs. search needs)
     (λ c. search needs)
@@ -54,6 +44,7 @@ put-state-spec =
     (λ c. search needs)
     (λ c κs. search needs)
     (λ c. search needs)
+    (λ c κs. search needs)
     (λ c κs. search needs)
     (λ c. search needs)
     returns)

@@ -5,22 +5,32 @@ use mathlib.Core.Path.{_≡_, sym, ap, ap₂, _∙_, subst}
 use mathlib.Core.List.{List}
 use Prim.Native.Nat.{ℕ, _+_, _-_, _≤_}
 use native.Mathlib.Omega.{arith}
-use lib.ListN.{length, take, drop}
+use lib.ListN.{length, take, drop, length-append}
+use lib.Seq.{length-take-le}
 use denote.Ref.{now}
 use Rattle.unary.specs.Run.{Ran, runOf}
-use Rattle.unary.specs.State.{openOf}
-use Rattle.unary.specs.declared.Start.{Start}
-use Rattle.unary.specs.declared.Answer.{Answer}
-use Rattle.unary.proofs.Answers.{in-range}
+use Rattle.unary.specs.Opening.{openOf}
+use Rattle.unary.specs.Types.{Start, Answer}
+use Rattle.unary.proofs.Laws.{in-range}
 use Rattle.jobs.specs.Layout.{Bytes}
 use Rattle.jobs.specs.Reading.{readOf}
 use Rattle.jobs.specs.declared.Verdict.the-variants.{Reads}
 use Rattle.jobs.specs.declared.Reading.{Reading}
-use Rattle.jobs.proofs.Lengths.{word-inside}
+use Rattle.jobs.proofs.Laws.{word-inside}
+use Rattle.text.specs.Wrote.{Wrote}
+use Rattle.text.proofs.Laws.{wrote-as, from-front}
+use Rattle.printed.specs.Responds.{Responds}
 use Rattle.printed.specs.Text.{answerText, runIn, printedBy, printed, filledOn, filledBy}
-use Rattle.printed.proofs.Places.{put-as}
 use Rattle.printed.proofs.respond.Statement.{statement}
 use Rattle.printed.proofs.respond.Tie as tie
+
+-- what is written from the front on
+answered : {new : List ℕ} {r : ℕ} {file room room′ old : List ℕ} → 40000 ≤ length old → Wrote old 0 (printed file room) 40000 new r → room′ ≡ filledBy file room →
+    Responds file room room′ old new r
+answered {new} {r} h w d =
+    let e = from-front w h in
+    let l : r ≤ length new = omega (arith, simp length-append at (ap length e), w .place) in
+    record { size = omega (arith, w .place); text = e; digits = d; inside = l; front = sym (length-take-le r new l) }
 
 -- the file reads
 verdict : (c : tie.After-enum-told) → readOf (now (c .before .before .before .before .before .before .before .args .file)) .verdict ≡ Reads
@@ -63,7 +73,7 @@ returns c =
     let job = readOf file .job in
     let e = sym (ap (λ (a : Reading). a .verdict) (r .read .ensures)) ∙ v .verdict .given .1 in
     let digits = now (s .args .digits) in
-    record { text = put-as (sym (ap (printedBy file job digits) e)) (q .put-refusal .ensures); digits = sym (ap (filledOn file job digits) e) }
+    answered (s .pre .1) (wrote-as (sym (ap (printedBy file job digits) e)) (q .put-refusal .ensures)) (sym (ap (filledOn file job digits) e))
 
 put-answer-requires : tie.Need-put-answer-requires
 put-answer-requires c κs =
@@ -89,10 +99,9 @@ returns-2 c =
     let file = now (s .args .file) in
     let job = readOf file .job in
     let digits = now (s .args .digits) in
-    record {
-      text = put-as (ap₂ answerText (ran x .0) (ran x .1) ∙ sym (ap (printedBy file job digits) (verdict v))) (q .put-answer .ensures);
-      digits = ran x .1 ∙ sym (ap (filledOn file job digits) (verdict v));
-    }
+    answered (s .pre .1)
+    (wrote-as (ap₂ answerText (ran x .0) (ran x .1) ∙ sym (ap (printedBy file job digits) (verdict v))) (q .put-answer .ensures))
+    (ran x .1 ∙ sym (ap (filledOn file job digits) (verdict v)))
 
 pub respond-spec : {M : Type 1} → statement M
 respond-spec =

@@ -1,0 +1,9 @@
+-- Text, as definitions.
+--   Text     bytes of a text
+--   Wrote    where a text stands in a buffer
+--   Number   how a number is written
+--   Line     how a line of fields is written
+pub mod Text
+pub mod Wrote
+pub mod Number
+pub mod Line
