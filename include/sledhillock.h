@@ -108,16 +108,17 @@ uint32_t sled_system_d(int16_t *rows, size_t length);
 /* Reads a job file: two systems, a matrix and a word. Four sections in this order, each after its count of two bytes, low byte first: the input system (count of digits, then
    rows of eight signed 16-bit numbers, low byte first), the output system, the matrix (count 4, then a b c d), the word (count 0 to 4096, then one byte a digit).
 
-   ins_length and outs_length have to be SLED_ROWS, matrix_length SLED_MATRIX and found_length SLED_FOUND. Answers
+   input_rows_length and output_rows_length have to be SLED_ROWS, matrix_length SLED_MATRIX and found_length SLED_FOUND. Answers
 
-     0                      ins and outs are written whole, 0 behind the last digit's row; matrix is written; found[0] is how many digits the input system has, found[1] how many
-                            the output system has, found[2] where the word starts in the file, and found[3] how many digits it has. So what is run is
-                            sled_run(ins, SLED_ROW * found[0], outs, SLED_ROW * found[1], .., file + found[2], found[3], ..), and sled_open does not refuse the matrix.
+     0                      input_rows and output_rows are written whole, 0 behind the last digit's row; matrix is written; found[0] is how many digits the input system has,
+                            found[1] how many the output system has, found[2] where the word starts in the file, and found[3] how many digits it has. So what is run is
+                            sled_run(input_rows, SLED_ROW * found[0], output_rows, SLED_ROW * found[1], .., file + found[2], found[3], ..), and sled_open does not refuse
+                            the matrix.
      SLED_REFUSED_LENGTH    a length is wrong. Nothing is written.
      any other              SLED_NUMBER(answer) is the refusal: COUNT, RANGE, MAP, INTERVAL, LOWEST, GAP, MATRIX, SHORT, LONG, FOUR or WORD, and SLED_SECTION(answer)
                             the section where it was met. Nothing is written. */
-uint32_t sled_read(const uint8_t *file, size_t file_length, int16_t *ins, size_t ins_length, int16_t *outs, size_t outs_length, int64_t *matrix, size_t matrix_length,
-                   size_t *found, size_t found_length);
+uint32_t sled_read(const uint8_t *file, size_t file_length, int16_t *input_rows, size_t input_rows_length, int16_t *output_rows, size_t output_rows_length,
+                   int64_t *matrix, size_t matrix_length, size_t *found, size_t found_length);
 
 /* Opens a session for the matrix a b c d: four numbers in -1000..1000 with a d - b c > 0.
    matrix_length has to be SLED_MATRIX and state_length SLED_STATE. Answers 0 and writes the state: the matrix divided by the greatest common divisor of its entries, and
@@ -137,8 +138,8 @@ uint32_t sled_open(const int64_t *matrix, size_t matrix_length, int64_t *state, 
 
    input_length and output_length may be anything, 0 too. A call first judges both systems, so feed long pieces where speed matters. Steps are linear in bytes taken plus
    digits written. */
-uint32_t sled_run(const int16_t *in_rows, size_t in_length, const int16_t *out_rows, size_t out_length, int64_t *state, size_t state_length, const uint8_t *input,
-                  size_t input_length, uint8_t *output, size_t output_length, size_t *counts, size_t counts_length);
+uint32_t sled_run(const int16_t *input_rows, size_t input_rows_length, const int16_t *output_rows, size_t output_rows_length, int64_t *state, size_t state_length,
+                  const uint8_t *input, size_t input_length, uint8_t *output, size_t output_length, size_t *counts, size_t counts_length);
 
 #ifdef __cplusplus
 }

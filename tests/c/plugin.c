@@ -14,9 +14,9 @@ enum { GUARD = 64 };
 
 struct world {
     uint8_t guard0[GUARD];
-    int16_t ins[144];
+    int16_t input_rows[144];
     uint8_t guard1[GUARD];
-    int16_t outs[144];
+    int16_t output_rows[144];
     uint8_t guard2[GUARD];
     int64_t matrix[8];
     uint8_t guard3[GUARD];
@@ -72,8 +72,8 @@ typedef uint32_t system_call(int16_t *rows, size_t length);
 static void built_in(system_call *call, const int16_t *rows, size_t size, const char *what) {
     for (size_t length = 0; length <= 144; length++) {
         begin();
-        if (length == size) memcpy(then.ins, rows, size * sizeof *rows);
-        settled(call(now.ins, length), length == size ? SLED_OK : SLED_REFUSED_LENGTH, what, (long)length);
+        if (length == size) memcpy(then.input_rows, rows, size * sizeof *rows);
+        settled(call(now.input_rows, length), length == size ? SLED_OK : SLED_REFUSED_LENGTH, what, (long)length);
     }
 }
 
@@ -81,9 +81,9 @@ static void built_in(system_call *call, const int16_t *rows, size_t size, const 
 
 static void admits(const int16_t *rows, size_t length, uint32_t expected, const char *what, long detail) {
     begin();
-    memcpy(now.ins, rows, length * sizeof *rows);
-    memcpy(then.ins, rows, length * sizeof *rows);
-    settled(sled_admit(now.ins, length), expected, what, detail);
+    memcpy(now.input_rows, rows, length * sizeof *rows);
+    memcpy(then.input_rows, rows, length * sizeof *rows);
+    settled(sled_admit(now.input_rows, length), expected, what, detail);
 }
 
 /* R with one number changed */
@@ -182,21 +182,21 @@ static void opening(void) {
 /* ---- runs */
 
 struct lengths {
-    size_t ins, outs, state, input, output, counts;
+    size_t input_rows, output_rows, state, input, output, counts;
 };
 
 /* what a run finds: systems, a state, a word */
-static void given(const int16_t *ins, size_t n, const int16_t *outs, size_t m, const int64_t *state, const uint8_t *word, size_t length) {
+static void given(const int16_t *input_rows, size_t n, const int16_t *output_rows, size_t m, const int64_t *state, const uint8_t *word, size_t length) {
     begin();
-    memcpy(now.ins, ins, n * sizeof *ins);
-    memcpy(now.outs, outs, m * sizeof *outs);
+    memcpy(now.input_rows, input_rows, n * sizeof *input_rows);
+    memcpy(now.output_rows, output_rows, m * sizeof *output_rows);
     memcpy(now.state, state, 5 * sizeof *state);
     memcpy(now.input, word, length);
     memcpy(&then, &now, sizeof now);
 }
 
 static uint32_t run(struct lengths n) {
-    return sled_run(now.ins, n.ins, now.outs, n.outs, now.state, n.state, now.input, n.input, now.output, n.output, now.counts, n.counts);
+    return sled_run(now.input_rows, n.input_rows, now.output_rows, n.output_rows, now.state, n.state, now.input, n.input, now.output, n.output, now.counts, n.counts);
 }
 
 static void counted(size_t taken, size_t written) {
@@ -306,9 +306,9 @@ static void pieces(void) {
 
 /* ---- refused runs */
 
-static void refused(const int16_t *ins, size_t n, const int16_t *outs, size_t m, const int64_t *state, uint32_t expected, const char *what, long detail) {
+static void refused(const int16_t *input_rows, size_t n, const int16_t *output_rows, size_t m, const int64_t *state, uint32_t expected, const char *what, long detail) {
     const struct lengths lengths = {n, m, 5, 3, 10, 2};
-    given(ins, n, outs, m, state, WORD, 3);
+    given(input_rows, n, output_rows, m, state, WORD, 3);
     counted(0, 0);
     settled(run(lengths), expected, what, detail);
 }
@@ -354,7 +354,7 @@ static void refusals(void) {
     const struct lengths r = {32, 32, 5, 3, 10, 2};
     for (size_t k = 0; k <= 8; k++) {
         struct lengths n[4] = {r, r, r, r};
-        n[0].ins = 32 + k, n[1].outs = 32 + k, n[2].state = k, n[3].counts = k % 5;
+        n[0].input_rows = 32 + k, n[1].output_rows = 32 + k, n[2].state = k, n[3].counts = k % 5;
         const int right[4] = {k % 8 == 0, k % 8 == 0, k == 5, k % 5 == 2};
         for (int j = 0; j < 4; j++)
             if (!right[j]) {
@@ -363,7 +363,7 @@ static void refusals(void) {
             }
     }
     struct lengths n = r;
-    n.ins = 31;
+    n.input_rows = 31;
     given(six, 8, six, 8, worse, WORD, 3);
     settled(run(n), 40, "40 before all others", 0);
 }
@@ -380,13 +380,13 @@ static void pair(int n) {
 }
 
 /* a job file: counts as given, whatever they are, and what stands behind them */
-static void write_job(const int16_t *ins, int n, const int16_t *outs, int m, int four, const int16_t *matrix, int count, int length) {
+static void write_job(const int16_t *input_rows, int n, const int16_t *output_rows, int m, int four, const int16_t *matrix, int count, int length) {
     begin();
     file_length = 0;
     pair(n);
-    for (int k = 0; k < 8 * n && k < 128; k++) pair(ins[k]);
+    for (int k = 0; k < 8 * n && k < 128; k++) pair(input_rows[k]);
     pair(m);
-    for (int k = 0; k < 8 * m && k < 128; k++) pair(outs[k]);
+    for (int k = 0; k < 8 * m && k < 128; k++) pair(output_rows[k]);
     pair(four);
     for (int k = 0; k < 4; k++) pair(matrix[k]);
     pair(count);
@@ -394,7 +394,7 @@ static void write_job(const int16_t *ins, int n, const int16_t *outs, int m, int
     memcpy(&then, &now, sizeof now);
 }
 
-static uint32_t read_file(void) { return sled_read(now.file, file_length, now.ins, 128, now.outs, 128, now.matrix, 4, now.found, 4); }
+static uint32_t read_file(void) { return sled_read(now.file, file_length, now.input_rows, 128, now.output_rows, 128, now.matrix, 4, now.found, 4); }
 
 static void refuses(uint32_t number, uint32_t section, const char *what, long detail) {
     uint32_t answer = read_file();
@@ -405,10 +405,10 @@ static void refuses(uint32_t number, uint32_t section, const char *what, long de
 static void good_job(void) {
     const int16_t m[4] = {1000, -3, 5, 7};
     write_job(R, 4, B, 8, 4, m, 9, 9);
-    memset(then.ins, 0, 256);
-    memset(then.outs, 0, 256);
-    memcpy(then.ins, R, sizeof R);
-    memcpy(then.outs, B, sizeof B);
+    memset(then.input_rows, 0, 256);
+    memset(then.output_rows, 0, 256);
+    memcpy(then.input_rows, R, sizeof R);
+    memcpy(then.output_rows, B, sizeof B);
     for (int k = 0; k < 4; k++) then.matrix[k] = m[k];
     then.found[0] = 4, then.found[1] = 8, then.found[2] = 2 + 64 + 2 + 128 + 10 + 2, then.found[3] = 9;
     settled(read_file(), 0, "R to B", 0);
@@ -416,7 +416,7 @@ static void good_job(void) {
     size_t counts[2];
     uint8_t out[64];
     check(sled_open(now.matrix, 4, now.state, 5) == 0, "the job opens", 0);
-    uint32_t end = sled_run(now.ins, 8 * now.found[0], now.outs, 8 * now.found[1], now.state, 5, now.file + now.found[2], now.found[3], out, 64, counts, 2);
+    uint32_t end = sled_run(now.input_rows, 8 * now.found[0], now.output_rows, 8 * now.found[1], now.state, 5, now.file + now.found[2], now.found[3], out, 64, counts, 2);
     check(end == 0 || end == 20, "the job runs", (long)end);
 }
 
@@ -456,7 +456,7 @@ static void bad_jobs(void) {
         for (size_t n = 0; n <= (k < 2 ? 140 : 8); n++) {
             size_t l[4] = {128, 128, 4, 4};
             l[k] = n;
-            if (n != right[k]) settled(sled_read(now.file, file_length, now.ins, l[0], now.outs, l[1], now.matrix, l[2], now.found, l[3]), 40, "lengths of reading", (long)n);
+            if (n != right[k]) settled(sled_read(now.file, file_length, now.input_rows, l[0], now.output_rows, l[1], now.matrix, l[2], now.found, l[3]), 40, "lengths of reading", (long)n);
         }
 }
 
@@ -487,18 +487,18 @@ static void random_runs(int times) {
     int seen[41] = {0}, before = passed;
     for (int t = 0; t < times; t++) {
         for (size_t k = 0; k < sizeof now; k++) ((uint8_t *)&now)[k] = (uint8_t)any(256);
-        struct lengths n = {some_system(now.ins), some_system(now.outs), 5, any(100), any(100), 2};
+        struct lengths n = {some_system(now.input_rows), some_system(now.output_rows), 5, any(100), any(100), 2};
         for (int k = 0; k < 4; k++) now.state[k] = (int)any(7) - 3;
         now.state[4] = (int)any(6) - 2;
         if (any(10) == 0) n.state = any(8);
         if (any(20) == 0) n.counts = any(4);
         for (size_t k = 0; k < 128; k++) now.input[k] = (uint8_t)any(any(4) == 0 ? 5 : 2);
         memcpy(&fresh, &now, sizeof now);
-        uint32_t first = sled_admit(now.ins, n.ins), end = run(n);
+        uint32_t first = sled_admit(now.input_rows, n.input_rows), end = run(n);
         memcpy(&then, &fresh, sizeof then);
-        uint32_t plain = plain_admit(then.ins, n.ins);
+        uint32_t plain = plain_admit(then.input_rows, n.input_rows);
         check(first == plain, "random admission", t);
-        plain = plain_run(then.ins, n.ins, then.outs, n.outs, (i64 *)then.state, n.state, then.input, n.input, then.output, n.output, then.counts, n.counts);
+        plain = plain_run(then.input_rows, n.input_rows, then.output_rows, n.output_rows, (i64 *)then.state, n.state, then.input, n.input, then.output, n.output, then.counts, n.counts);
         settled(end, plain, "random run", t);
         if (end <= 40) seen[end]++;
     }

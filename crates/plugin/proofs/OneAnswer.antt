@@ -4,8 +4,8 @@ use mathlib.Core.Path.{_≡_, sym, _∙_}
 use mathlib.Core.List.{List}
 use Prim.Native.Nat.{ℕ}
 use lib.IntN.{ℤ}
-use Rattle.plugin.specs.Read.{ReadCall, readCall}
-use Rattle.plugin.specs.Calls.{admitNumber, wrote, handedOut, openCall, Call, runCall}
+use Rattle.numbers.specs.Job.{AfterRead}
+use Rattle.plugin.specs.Calls.{admitNumber, wrote, handedOut, openCall, AfterRun, runCall, readCall}
 
 pub one-admission : (rows : List ℤ) (r r′ : ℕ) → r ≡ admitNumber rows → r′ ≡ admitNumber rows → r ≡ r′
 one-admission rows r r′ p q = p ∙ sym q
@@ -19,10 +19,10 @@ pub one-opening : (m old : List ℤ) (r r′ : ℕ) (new new′ : List ℤ) →
 one-opening m old r r′ new new′ p q = p ∙ sym q
 
 -- of a run: two calls that find the same leave the same
-pub one-run : (ins outs : List ℤ) (input : List ℕ) (old : List ℤ) (output counts : List ℕ) (x y : Call) →
-    x ≡ runCall ins outs input old output counts → y ≡ runCall ins outs input old output counts → x ≡ y
-one-run ins outs input old output counts x y p q = p ∙ sym q
+pub one-run : (input-rows output-rows : List ℤ) (input : List ℕ) (old : List ℤ) (output counts : List ℕ) (x y : AfterRun) →
+    x ≡ runCall input-rows output-rows input old output counts → y ≡ runCall input-rows output-rows input old output counts → x ≡ y
+one-run input-rows output-rows input old output counts x y p q = p ∙ sym q
 
-pub one-reading : (file : List ℕ) (ins outs m : List ℤ) (found : List ℕ) (x y : ReadCall) →
-    x ≡ readCall file ins outs m found → y ≡ readCall file ins outs m found → x ≡ y
-one-reading file ins outs m found x y p q = p ∙ sym q
+pub one-reading : (file : List ℕ) (input-rows output-rows m : List ℤ) (found : List ℕ) (x y : AfterRead) →
+    x ≡ readCall file input-rows output-rows m found → y ≡ readCall file input-rows output-rows m found → x ≡ y
+one-reading file input-rows output-rows m found x y p q = p ∙ sym q

@@ -1,36 +1,35 @@
--- Rows that a plug-in lends stand for a system (`systemFrom`), and are judged and run as they are, with no copy: they have as many digits and the same numbers at the
--- places of those, and no answer depends on anything else (`unused-rows`, `same-lent`).
-use mathlib.Core.Path.{_≡_, refl, sym}
-use mathlib.Core.Bool.{true}
+-- Rows that a plug-in lends stand for a system (`systemFrom`), and are judged and run as they are, with no copy: they have the same digits, and no answer depends on
+-- anything else (`unused-rows`, `same-run`).
+use mathlib.Core.Path.{_≡_, ap, _∙_}
 use mathlib.Core.List.{List}
-use Prim.Native.Nat.{ℕ, _-_, _/_, _%_, _≤_}
+use Prim.Native.Nat.{ℕ, _/_, _%_}
 use native.Mathlib.Omega.{arith}
-use borrow.Author.Tests.{eqb-true, le-leb}
-use lib.IntN.{ℤ, pos}
-use lib.ListN.{length, replicate, List·getD-append}
-use Rattle.digits.specs.Admission.{admissionOf}
-use Rattle.digits.proofs.UnusedRows.{SameDigits, unused-rows}
-use Rattle.unary.specs.declared.State.{State}
-use Rattle.unary.specs.Run.{lentRun, runOf, systems}
-use Rattle.unary.specs.Ready.{lent}
-use Rattle.unary.proofs.UnusedRows.{same-lent}
-use Rattle.plugin.specs.Numbers.{rows?, systemFrom}
+use borrow.Author.Tests.{le-leb}
+use lib.IntN.{ℤ}
+use lib.ListN.{length}
+use Rattle.digits.specs.Types.{System}
+use Rattle.digits.specs.System.{lent, SameDigits}
+use Rattle.digits.proofs.Laws.{filled-same}
+use Rattle.admission.specs.Admission.{admissionOf}
+use Rattle.admission.proofs.Laws.{unused-rows}
+use Rattle.steps.specs.Types.{State}
+use Rattle.unary.specs.Run.{runOf}
+use Rattle.unary.proofs.Laws.{same-run}
+use Rattle.numbers.specs.Numbers.{systemFrom}
 
-same-digits : (l : List ℤ) → rows? l ≡ true → let s = systemFrom l in SameDigits (length l / 8) l (s .count) (s .rows)
+-- the system that lent rows are
+abbrev pub lentRows : List ℤ → System
+lentRows l = lent (length l / 8) l
+
+same-digits : (l : List ℤ) → length l % 8 ≡ 0 → SameDigits (lentRows l) (systemFrom l)
 unfolding systemFrom
-same-digits l whole = record {
-  count = refl;
-  numbers = λ few p h.
-      let short : length l ≤ 128 = omega (arith, eqb-true (length l % 8) 0 whole) in
-      rw (le-leb (length l) 128 short) (sym (List·getD-append l (replicate (128 - length l) (pos 0)) (pos 0) p (omega arith)));
-}
+same-digits l whole = filled-same (λ few. (omega arith, rw (le-leb (length l) 128 (omega arith))))
 
-pub lent-admission : (l : List ℤ) → rows? l ≡ true → let s = systemFrom l in admissionOf (length l / 8) l ≡ admissionOf (s .count) (s .rows)
-lent-admission l whole = unused-rows l (systemFrom l .rows) (same-digits l whole)
+pub lent-admission : (l : List ℤ) → length l % 8 ≡ 0 → admissionOf (lentRows l) ≡ admissionOf (systemFrom l)
+lent-admission l whole = unused-rows (same-digits l whole)
 
-pub lent-run : (ins outs : List ℤ) → rows? ins ≡ true → rows? outs ≡ true → (s : State) (input output : List ℕ) →
-    lentRun (lent (length ins / 8) ins (length outs / 8) outs) s input output ≡ runOf (systemFrom ins) (systemFrom outs) s input output
-unfolding runOf
-lent-run ins outs p q =
-    same-lent (lent (length ins / 8) ins (length outs / 8) outs) (systems (systemFrom ins) (systemFrom outs))
-    (record { input = same-digits ins p; output = same-digits outs q })
+pub lent-run : (input-rows output-rows : List ℤ) → length input-rows % 8 ≡ 0 → length output-rows % 8 ≡ 0 → {s t : State} → s ≡ t → (input output : List ℕ) →
+    runOf (lentRows input-rows) (lentRows output-rows) s input output ≡ runOf (systemFrom input-rows) (systemFrom output-rows) t input output
+lent-run ins outs p q {s} e input output =
+    same-run (lentRows ins) (systemFrom ins) (lentRows outs) (systemFrom outs) (same-digits ins p) (same-digits outs q) s input output ∙
+    ap (λ (t : State). runOf (systemFrom ins) (systemFrom outs) t input output) e

@@ -1,4 +1,2 @@
--- What the C functions promise, as definitions: how a system, a state and an answer are written as numbers, and what each call leaves.
-pub mod Numbers
+-- What the C functions promise: what each call leaves.
 pub mod Calls
-pub mod Read

@@ -3,7 +3,7 @@ use borrow.Author.Needs.{needs}
 use mathlib.Core.Path.{ap, _∙_}
 use denote.Ref.{now}
 use borrow.Author.Tests.{eq-eqb, ne-eqb}
-use Rattle.digits.specs.Admission.{refusalNumber}
+use Rattle.admission.specs.Admission.{refusalNumber}
 use Rattle.plugin.specs.Calls.{admitNumber}
 use Rattle.plugin.proofs.Rows.{lent-admission}
 use Rattle.plugin.proofs.sled_admit.Statement.{statement}
@@ -17,9 +17,8 @@ returns-2 : tie.Need-returns-2
 unfolding admitNumber
 returns-2 c =
     let j = c .before in
-    let l = j .before in
-    let whole = eq-eqb _ _ (l .if1 .left) in
-    rw whole (c .refusal-number .ensures ∙ ap refusalNumber (j .judged .ensures ∙ lent-admission (now (l .before .args .rows)) whole))
+    let whole = j .before .if1 .left in
+    rw (eq-eqb _ _ whole) (c .refusal-number .ensures ∙ ap refusalNumber (j .admission-of .ensures ∙ lent-admission (now (j .before .before .args .rows)) whole))
 
 pub sled-admit-spec : {M : Type 1} → statement M
 sled-admit-spec = tie.close (tie.spec returns (λ c κs. search needs) (λ c κs. search needs) (λ c. search needs) returns-2)

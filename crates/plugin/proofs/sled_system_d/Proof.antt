@@ -2,15 +2,11 @@
 use borrow.Author.Needs.{needs}
 use mathlib.Core.Path.{refl, _∙_}
 use denote.Ref.{now}
-use borrow.Author.Tests.{leb-true}
 use Rattle.digits.specs.BuiltIn.{rowsD}
-use Rattle.plugin.proofs.Laws.{rows-there, handed-rows}
+use Rattle.plugin.proofs.BuiltIn.{built-in}
 use Rattle.plugin.proofs.sled_system_d.Statement.{statement}
 use Rattle.plugin.proofs.sled_system_d.Tie as tie
 
 pub sled-system-d-spec : {M : Type 1} → statement M
-sled-system-d-spec = tie.close (tie.spec
-    (λ c κs. search needs)
-    (λ c κs. rows-there rowsD (c .before .system-d .ensures) (leb-true _ _ refl) (leb-true _ _ refl))
-    (λ c. search needs)
-    (λ c. let s = c .before .before .before in c .before .hand-out .ensures ∙ handed-rows rowsD (s .system-d .ensures) refl (now (s .before .args .rows))))
+sled-system-d-spec = tie.close (tie.spec (λ c κs. search needs) (λ c κs. search needs) (λ c. search needs)
+    (λ c. let s = c .before .before .before in c .before .hand-out .ensures ∙ built-in rowsD 32 (s .system-d .ensures) refl refl (now (s .before .args .rows))))

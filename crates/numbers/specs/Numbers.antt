@@ -1,18 +1,17 @@
--- How a plug-in writes a system, a state and an answer: as plain numbers.
-use mathlib.Core.Bool.{Bool, true, false, cond}
-use mathlib.Core.List.{List, [], _∷_}
-use Prim.Native.Nat.{ℕ, zero, suc, _/_, _%_}
+-- How a plug-in writes a system and a state: as plain numbers.
+use mathlib.Core.Bool.{Bool, cond}
+use mathlib.Core.List.{List, [], _∷_, _++_}
+use Prim.Native.Nat.{ℕ, _/_, _%_}
 use lib.Dec.{eqb, leb, ltb}
 use lib.ListN.{length, replicate}
-use lib.IntN.{ℤ, pos, negsuc}
+use lib.IntN.{ℤ, pos, negsuc, natAbs}
+use lib.Signed.{ltZ}
 use Rattle.whole.specs.Range.{at}
-use Rattle.digits.specs.declared.System.{System}
+use Rattle.plane.specs.Scale.{entries}
+use Rattle.digits.specs.Types.{System}
 use Rattle.digits.specs.BuiltIn.{filled}
-use Rattle.unary.specs.declared.Held.{Held}
-use Rattle.unary.specs.declared.Held.the-variants.{Nothing, Digit}
-use Rattle.unary.specs.declared.State.{State}
-use Rattle.unary.specs.declared.Stop.{Stop}
-use Rattle.unary.specs.declared.Stop.the-variants.{InputUsed, NoRoom, NotADigit, RangeLeft, Refused}
+use Rattle.steps.specs.Types.{Held, Nothing, Digit, State, Stop}
+use Rattle.steps.specs.State.{refused?}
 
 -- the number that refuses a slice of the wrong length: a number that no rule of document 01 has
 abbrev pub wrongLength : ℕ
@@ -36,24 +35,15 @@ heldNumber Nothing = negsuc 0
 heldNumber (Digit d) = pos d
 
 unfoldable pub stateNumbers : State → List ℤ
-stateNumbers s = at (s .matrix) 0 ∷ at (s .matrix) 1 ∷ at (s .matrix) 2 ∷ at (s .matrix) 3 ∷ heldNumber (s .held) ∷ []
+stateNumbers s = entries (s .matrix) ++ heldNumber (s .held) ∷ []
 
--- what a fifth number stands for: −1 for nothing, 0 to 255 for that digit. Any other is a digit that no system has, as 255 is.
+-- what a fifth number stands for: −1 for nothing, 0 to 255 for that digit. Any other, below −1 or above 255, is a digit that no system has, as 255 is.
 unfoldable pub heldFrom : ℤ → Held
-heldFrom (negsuc zero) = Nothing
-heldFrom (negsuc (suc k)) = Digit 255
-heldFrom (pos d) = Digit (cond (ltb 255 d) 255 d)
+heldFrom z = cond (ltZ z (negsuc 0)) (Digit 255) (cond (ltZ z (pos 0)) Nothing (cond (ltb 255 (natAbs z)) (Digit 255) (Digit (natAbs z))))
 
 unfoldable pub stateFrom : List ℤ → State
-stateFrom l = record { matrix = at l 0 ∷ at l 1 ∷ at l 2 ∷ at l 3 ∷ []; held = heldFrom (at l 4) }
+stateFrom l = record { matrix = entries l; held = heldFrom (at l 4) }
 
 -- the five numbers behind a run: a refusal leaves them as they came, whatever they were
-abbrev pub refused? : Stop → Bool
-refused? InputUsed = false
-refused? NoRoom = false
-refused? NotADigit = false
-refused? RangeLeft = false
-refused? (Refused number) = true
-
 unfoldable pub stateAfter : Stop → State → List ℤ → List ℤ
 stateAfter stop s old = cond (refused? stop) old (stateNumbers s)
