@@ -5,9 +5,8 @@ use mathlib.Core.List.{List, [], _∷_}
 use borrow.Author.Tests.{eqb-true}
 use lib.Dec.{eqb}
 use lib.IntN.{ℤ, pos, negsuc}
-use Rattle.unary.specs.declared.Held.{Held}
-use Rattle.unary.specs.declared.Held.the-variants.{Nothing, Digit}
-use Rattle.digits.proofs.RowSays.{both-true}
+use Rattle.steps.specs.Types.{Held, Nothing, Digit}
+use Rattle.whole.proofs.Laws.{both-true}
 
 abbrev pub sameNumber? : ℤ → ℤ → Bool
 sameNumber? (pos a) (pos b) = eqb a b

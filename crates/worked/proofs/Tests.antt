@@ -8,22 +8,20 @@ use lib.Dec.{eqb}
 use lib.ListN.{length, take}
 use lib.IntN.{ℤ, pos}
 use lib.Signed.{ltZ}
-use Rattle.whole.proofs.Test.{lt-true}
+use Rattle.whole.proofs.Laws.{lt-true}
 use Rattle.plane.specs.Plane.{det, left, right, Interval}
-use Rattle.plane.specs.Inclusion.{closed?, included?}
-use Rattle.plane.proofs.Inclusion.{included-says, not-included-says, closed-says}
-use Rattle.digits.specs.Admission.{refusalNumber}
+use Rattle.inclusion.specs.Inclusion.{closed?, included?}
+use Rattle.inclusion.proofs.Laws.{included-says, not-included-says, closed-says}
+use Rattle.admission.specs.Admission.{refusalNumber}
 use Rattle.digits.specs.BuiltIn.{systemOf}
-use Rattle.digits.proofs.AdmittedSays.{admitted-says}
-use Rattle.unary.specs.declared.Held.the-variants.{Nothing}
-use Rattle.unary.specs.declared.Opening.{Opening}
-use Rattle.unary.specs.declared.Opening.the-variants.{Opens, OutOfRange, NotAbove}
-use Rattle.unary.specs.declared.Start.{Start}
-use Rattle.unary.specs.State.{endNumber, openingNumber, openOf}
+use Rattle.admission.proofs.Laws.{admitted-says}
+use Rattle.steps.specs.Types.{Nothing}
+use Rattle.unary.specs.Types.{Opening, Opens, OutOfRange, NotAbove, Start}
+use Rattle.steps.specs.State.{endNumber}
+use Rattle.unary.specs.Opening.{openingNumber, openOf}
 use Rattle.unary.specs.Run.{Ran}
-use Rattle.unary.proofs.Keeps.{opens}
-use Rattle.worked.specs.Claims.{Job, Ending, judgedOf, ranOf, IsIncluded, EndsOnly, IsOpened, IsJudged, IsEnded}
-use Rattle.worked.specs.Claims.{Claim, included, ends-only, opening, judged, ended, Says}
+use Rattle.unary.proofs.Laws.{opens}
+use Rattle.worked.specs.Claims.{Job, Ending, judgedOf, ranOf, IsIncluded, EndsOnly, IsOpened, IsJudged, IsEnded, Claim, included, ends-only, opening, judged, ended, Says}
 use Rattle.worked.proofs.Same.{sameNumber?, same-number, sameList?, same-list, sameHeld?, same-held, all?, each}
 
 -- ---- intervals
@@ -82,7 +80,7 @@ opening-holds m number x e =
     }
 
 judged-holds : (rows : List (List ℤ)) (number : ℕ) → eqb (refusalNumber (judgedOf rows)) number ≡ true → IsJudged rows number
-judged-holds rows number e = record { answer = eqb-true (refusalNumber (judgedOf rows)) number e; reason = admitted-says (systemOf rows .count) (systemOf rows .rows) }
+judged-holds rows number e = record { answer = eqb-true (refusalNumber (judgedOf rows)) number e; reason = admitted-says (systemOf rows) }
 
 -- ---- a job's run
 

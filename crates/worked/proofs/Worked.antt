@@ -6,15 +6,20 @@ use mathlib.Core.List.{List, [], _∷_}
 use mathlib.Core.Logic.{⊎-elim}
 use Rattle.whole.specs.Divisor.{gcdBy, gcd, gcd4}
 use Rattle.plane.specs.Plane.{apply, determinantOf, pseudoinverseOf, multiplyOf, imageOf, cancelOf}
-use Rattle.plane.specs.Inclusion.{closed?, same?, included?}
-use Rattle.digits.specs.First.{first}
-use Rattle.digits.specs.System.{fourAt}
-use Rattle.digits.specs.Admission.{within?, rowVerdict, rowsVerdict, admissionOf}
+use Rattle.inclusion.specs.Inclusion.{closed?, same?, included?}
+use Rattle.whole.specs.First.{first}
+use Rattle.digits.specs.System.{fourAt, transformationAt, intervalAt}
+use Rattle.plane.specs.Tests.{within?}
+use Rattle.admission.specs.Admission.{rowVerdict, rowsVerdict, admissionOf}
 use Rattle.digits.specs.BuiltIn.{systemOf}
-use Rattle.digits.proofs.RowSays.{both-true}
-use Rattle.unary.specs.State.{state?, openOf}
-use Rattle.unary.specs.Step.{fittingOf, stepOf}
-use Rattle.unary.specs.Run.{runBy, stepsOf, refusalOf, lentRun, runOf}
+use Rattle.whole.proofs.Laws.{both-true}
+use Rattle.unary.specs.Judging.{state?, refusalOf}
+use Rattle.unary.specs.Opening.{openOf}
+use Rattle.whole.specs.Refusal.{unlessRefused}
+use Rattle.runs.specs.Plan.{follow}
+use Rattle.runs.specs.Run.{runBy, run, judgedRun}
+use Rattle.steps.specs.Step.{fittingOf}
+use Rattle.unary.specs.Run.{courseOf, runOf}
 use Rattle.worked.specs.Claims.{Claim, Says, Member}
 use Rattle.worked.specs.Table.{table}
 use Rattle.worked.proofs.Tests.{passes?, holds}
@@ -31,7 +36,7 @@ passed (d ∷ ds) e c k =
 
 computed : allPass? table ≡ true
 unfolding gcdBy gcd gcd4 apply determinantOf pseudoinverseOf multiplyOf imageOf cancelOf closed? same? included? first fourAt within? rowVerdict rowsVerdict
-    admissionOf systemOf state? openOf fittingOf stepOf runBy stepsOf refusalOf lentRun runOf
+    admissionOf systemOf state? openOf unlessRefused transformationAt intervalAt fittingOf follow runBy run refusalOf judgedRun courseOf runOf
 computed = refl
 
 -- Document 01's worked examples, P1 to P12 and its other runs, are true of the definitions.

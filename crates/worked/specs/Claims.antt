@@ -7,15 +7,15 @@ use Prim.Native.Nat.{ℕ}
 use lib.ListN.{length, take, replicate}
 use lib.IntN.{ℤ}
 use Rattle.plane.specs.Plane.{left, right, Interval, Closed}
-use Rattle.plane.specs.Inclusion.{Included}
-use Rattle.digits.specs.Admission.{refusalNumber, admissionOf}
-use Rattle.digits.specs.Admitted.{SystemCase}
+use Rattle.inclusion.specs.Inclusion.{Included}
+use Rattle.admission.specs.Admission.{refusalNumber, admissionOf}
+use Rattle.admission.specs.Admitted.{SystemCase}
 use Rattle.digits.specs.BuiltIn.{systemOf}
-use Rattle.digits.specs.declared.Admission.{Admission}
-use Rattle.unary.specs.declared.Held.{Held}
-use Rattle.unary.specs.declared.Held.the-variants.{Nothing}
-use Rattle.unary.specs.declared.Opening.the-variants.{Opens}
-use Rattle.unary.specs.State.{endNumber, openingNumber, openOf, OpeningCase}
+use Rattle.admission.specs.Types.{Admission}
+use Rattle.steps.specs.Types.{Held, Nothing}
+use Rattle.unary.specs.Types.{Opens}
+use Rattle.steps.specs.State.{endNumber}
+use Rattle.unary.specs.Opening.{openingNumber, openOf, OpeningCase}
 use Rattle.unary.specs.Run.{Ran, runOf}
 
 -- a job: two systems as tables of rows, a matrix, a word, and the room that is given for the output
@@ -36,7 +36,7 @@ pub record Ending : Type 0 where
 
 -- the system that a table of rows is laid out as, judged
 abbrev pub judgedOf : List (List ℤ) → Admission
-judgedOf rows = admissionOf (systemOf rows .count) (systemOf rows .rows)
+judgedOf rows = admissionOf (systemOf rows)
 
 -- the run of a job, from the state that its matrix opens as
 abbrev pub ranOf : Job → Ran
@@ -68,7 +68,7 @@ pub record IsOpened (m : List ℤ) (number : ℕ) (x : List ℤ) : Type 0 where
 -- the judgement of a system answers this number, 0 or a refusal's, for the reason that document 01 gives
 pub record IsJudged (rows : List (List ℤ)) (number : ℕ) : Type 0 where
   pub answer : refusalNumber (judgedOf rows) ≡ number
-  pub reason : SystemCase (systemOf rows .count) (systemOf rows .rows) (judgedOf rows)
+  pub reason : SystemCase (systemOf rows) (judgedOf rows)
 
 -- the job's matrix opens, and its run ends so
 pub record IsEnded (j : Job) (e : Ending) : Type 0 where
