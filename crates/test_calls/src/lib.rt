@@ -1,0 +1,52 @@
+// What the test programs call: each function here makes the calls of one case and prints what was answered.
+use digits::System;
+use steps::State;
+
+pub fn admission(s: System) {
+    test_output::byte(admission::refusal_number(admission::admit(s)));
+}
+
+pub fn opening(m: [i64; 4]) {
+    let r = unary::open(m);
+    let v = r.opening;
+    let s = r.state;
+    test_output::byte(unary::opening_number(v));
+    test_output::state(s);
+}
+
+// A run. It hands the state on.
+pub fn run(inputs: System, outputs: System, s: State, word: &[u8], room: &mut [u8]) -> State {
+    let a = unary::run(inputs, outputs, s, word, room);
+    let t = a.state;
+    test_output::answer(a);
+    test_output::bytes(room);
+    t
+}
+
+// The second piece of a word, into the room behind the w digits of the first.
+fn rest(
+    inputs: System,
+    outputs: System,
+    s: State,
+    word: &[u8],
+    room: &mut [u8],
+    w: usize,
+) -> State {
+    if room.len() < w {
+        return s;
+    }
+    let a = unary::run(inputs, outputs, s, word, &mut room[w..]);
+    let t = a.state;
+    test_output::pieces(a);
+    test_output::bytes(room);
+    t
+}
+
+// A word in two pieces, each a run of its own; the second is read here. The counts are not printed, so that every cut of a word has the same line.
+pub fn cut(inputs: System, outputs: System, s: State, word: &[u8], room: &mut [u8]) -> State {
+    let mut second = [0u8; 64];
+    let n = test_input::word(&mut second);
+    let a = unary::run(inputs, outputs, s, word, room);
+    let t = a.state;
+    rest(inputs, outputs, t, &second[..n], room, a.written.0)
+}

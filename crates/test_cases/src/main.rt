@@ -1,0 +1,53 @@
+// Stored cases over the library's public functions, one line each: runs, sessions, openings, and what is refused. The cases are in the file stdin beside src/, and stdout
+// has what must be printed; expected.py writes both, and computes the lines in another way.
+use steps::Held;
+use steps::State;
+
+// A run: two systems, a state, a word, and a room as the bytes that stand there before.
+fn run(kind: u8, before: State) -> State {
+    let inputs = test_input::system();
+    let outputs = test_input::system();
+    let s = test_input::state(before);
+    let mut word = [0u8; 64];
+    let n = test_input::word(&mut word);
+    let mut room = [0u8; 64];
+    let m = test_input::word(&mut room);
+    if kind == b'c' {
+        return test_calls::cut(inputs, outputs, s, &word[..n], &mut room[..m]);
+    }
+    test_calls::run(inputs, outputs, s, &word[..n], &mut room[..m])
+}
+
+// A case of any kind, after the state that the case before left.
+fn case(kind: u8, before: State) -> State {
+    test_input::label();
+    match kind {
+        b'a' => {
+            test_calls::admission(test_input::system());
+            before
+        }
+        b'o' => {
+            test_calls::opening(test_input::matrix());
+            before
+        }
+        _ => run(kind, before),
+    }
+}
+
+// A proved loop has to end, and nothing says that an input does: the cases are counted down from a number that no input uses up.
+fn main() {
+    let mut s = State {
+        matrix: [0; 4],
+        held: Held::Nothing,
+    };
+    let mut left = u64::MAX;
+    while left > 0 {
+        let kind = test_input::byte();
+        if kind == 255 {
+            return;
+        }
+        s = case(kind, s);
+        test_output::text(b"\n");
+        left -= 1;
+    }
+}

@@ -1,0 +1,81 @@
+#!/usr/bin/env python3
+"""Stored cases of reading: each refusal number in each section where a file can give it, and jobs at the limits, with the answers that document 01 gives.
+
+  crates/test_files/expected.py            writes stdin (the files, each after its length) and stdout (what must be printed) beside this file
+  crates/test_files/expected.py --check    says whether the two files are what it would write
+"""
+import os, struct, sys
+
+R = [[1, 0, 1, 1, 0, 1, 1, 1], [1, 1, 0, 1, 1, 1, 1, 0], [1, -1, 0, 1, 1, 0, 1, -1], [1, 0, -1, 1, -1, 1, 0, 1]]
+M = [2, 1, 1, 2]
+
+
+def two(n):
+    return struct.pack('<H', n)
+
+
+def numbers(values):
+    return struct.pack('<%dh' % len(values), *values)
+
+
+def system(rows):
+    return two(len(rows)) + b''.join(numbers(r) for r in rows)
+
+
+def matrix(m):
+    return two(len(m)) + numbers(m)
+
+
+def word(w):
+    return two(len(w)) + bytes(w)
+
+
+def job(a=R, b=R, m=M, w=(0, 0, 1)):
+    return system(a) + system(b) + matrix(m) + word(w)
+
+
+def changed(row, place, value):
+    rows = [list(r) for r in R]
+    rows[row][place] = value
+    return rows
+
+
+whole = job()
+starts = [0, 66, 132, 142]                                   # where each section's count stands
+cases = [(whole, '0 3 3\n2 1 1 2 -\n0 1 1')]
+for section, start in enumerate(starts):                     # 1: a count, or a section, is not whole
+    cases += [(whole[:start], f'refused 1 {section}'), (whole[:start + 1], f'refused 1 {section}'), (whole[:start + 2], f'refused 1 {section}')]
+    end = (starts + [147])[section + 1]
+    cases.append((whole[:end - 1], f'refused 1 {section}'))
+cases += [(whole + b'\0', 'refused 2 3'), (whole + bytes(500), 'refused 2 3')]
+for section, put in ((0, lambda s: job(a=s)), (1, lambda s: job(b=s))):
+    cases += [
+        (put([]), f'refused 3 {section}'), (put(R * 4 + R[:1]), f'refused 3 {section}'),
+        (put(changed(3, 7, 101)), f'refused 6 {section}'), (put(changed(0, 0, -101)), f'refused 6 {section}'), (put(changed(2, 4, -32768)), f'refused 6 {section}'),
+        (put(changed(1, 0, 0)), f'refused 7 {section}'), (put(changed(1, 0, -1)), f'refused 7 {section}'),
+        (put(changed(0, 6, 0)), f'refused 8 {section}'), (put(changed(0, 6, -1)), f'refused 8 {section}'),
+        (put([[2, 0, 0, 2] + R[0][4:]] + R[1:]), f'refused 9 {section}'), (put(R[:1] + [R[1][:4] + [2, 2, 1, 0]] + R[2:]), f'refused 9 {section}'),
+        (put(R[:3]), f'refused 10 {section}'), (put(R[:1]), f'refused 10 {section}'),
+        (put(changed(0, 0, 101)[:1] + changed(1, 0, 0)[1:]), f'refused 6 {section}'),     # row by row: 6 in row 0 before 7 in row 1
+        (put(changed(0, 0, 0)[:1] + changed(1, 0, 101)[1:]), f'refused 7 {section}'),     # 7 in row 0 before 6 in row 1
+    ]
+cases += [
+    (job(m=[2, 1, 1]), 'refused 4 2'), (job(m=[2, 1, 1, 2, 0]), 'refused 4 2'), (job(m=[]), 'refused 4 2'),
+    (job(m=[1001, 0, 0, 1]), 'refused 6 2'), (job(m=[1, 0, 0, -1001]), 'refused 6 2'), (job(m=[1001, 0, 0, 0]), 'refused 6 2'),
+    (job(m=[1, 2, 2, 1]), 'refused 11 2'), (job(m=[1, 1, 1, 1]), 'refused 11 2'),
+    (job(w=[0] * 4097), 'refused 5 3'), (system(R) + system(R) + matrix(M) + two(65535), 'refused 5 3'),
+    (job(m=[1, 1, 1, 1]) + b'\0', 'refused 11 2'),                                       # the matrix before the bytes that follow
+    (job(a=R[:3], m=[1, 1, 1, 1]), 'refused 10 0'),                                      # the file's order
+    (job(w=[]), '0 0 0\n2 1 1 2 -\n'), (job(w=[4]), '21 0 0\n2 1 1 2 -\n'),
+    (job(m=[1000, 0, 0, 1], w=[]), '0 0 0\n1000 0 0 1 -\n'), (job(m=[2, 0, 0, 2], w=[]), '0 0 0\n1 0 0 1 -\n'),
+    (b'', 'refused 1 0'),
+]
+here = os.path.dirname(os.path.abspath(__file__))
+files = {'stdin': b''.join(struct.pack('<I', len(f)) + f for f, _ in cases), 'stdout': ''.join(line + '\n' for _, line in cases).encode()}
+if sys.argv[1:] == ['--check']:
+    same = all(open(os.path.join(here, name), 'rb').read() == data for name, data in files.items())
+    print(f'{len(cases)} files: the same' if same else 'stdin or stdout is not what expected.py writes')
+    sys.exit(0 if same else 1)
+for name, data in files.items():
+    open(os.path.join(here, name), 'wb').write(data)
+print(f'{len(cases)} files')
