@@ -1,28 +1,11 @@
 -- What admission and opening say of what was read: the number of the sentence that holds; and their numbers are signed 16-bit numbers.
-use mathlib.Core.Path.{_≡_, refl, sym, ap, _∙_, subst}
-use mathlib.Core.List.{List}
-use Prim.Native.Nat.{ℕ, zero, suc, _+_, _*_, _-_, _≤_, _<_}
-use native.Mathlib.Decide.{decLt}
-use native.Mathlib.Omega.{arith}
-use lib.ListN.{length, take, replicate, length-append, length-replicate, List·getD-eq-default}
-use lib.Seq.{getD-take, length-take-le}
-use lib.IntN.{ℤ, pos, negsuc}
-use lib.Signed.{_<ℤ_}
-use Rattle.whole.specs.Range.{at, Near, Within}
-use Rattle.plane.specs.Plane.{determinantOf}
-use Rattle.admission.specs.Admission.{refusalNumber, admissionOf}
-use Rattle.admission.specs.Admitted.{Admissible, SystemCase}
-use Rattle.digits.specs.BuiltIn.{filled}
-use Rattle.digits.proofs.Laws.{numbers-near}
-use Rattle.digits.specs.Types.{System}
-use Rattle.admission.specs.Types.{Admission, Admitted, WrongCount, OutOfRange, NotAbove, NotBelow, NotLowest, Uncovered}
-use Rattle.admission.proofs.Laws.{admitted-says, admitted-only}
-use Rattle.unary.specs.Opening.{openingNumber, openingOf, OpeningCase}
-use Rattle.unary.specs.Types.{Opening, Opens}
-use Rattle.unary.specs.declared.Opening.the-variants as opening
-use Rattle.unary.proofs.Laws.{opening-says, one-opening-sentence}
+use Rattle.whole.proofs.Laws.{_≡_, refl, sym, ap, _∙_, subst, not, List, ℕ, zero, suc, _*_, _-_, _≤_, _<_, decLt, arith, eqb, length, replicate, length-append, List·getD-eq-default, getD-take, length-take-le, ℤ, pos, negsuc, at, Near, Within}
+use Rattle.digits.proofs.Laws.{filled, numbers-near, System}
+use Rattle.admission.proofs.Laws.{refusalNumber, admissionOf, Admissible, SystemCase, not-refused, admitted-says, admitted-only}
+use Rattle.unary.proofs.Laws.{openingNumber, openingOf, OpeningCase, Opening, Opens, OutOfRange, NotAbove, opening-says, one-opening-sentence}
+use lib.ListN.{length-replicate}
 use Rattle.jobs.specs.Layout.{rowsOf, SystemRules, MatrixRules}
-use Rattle.jobs.specs.Sections.{Signed16, Sixteen, ByNumber, SystemSayable, system, matrix}
+use Rattle.jobs.specs.Sections.{Signed16, Sixteen, system, matrix}
 use Rattle.jobs.proofs.Numbers.{pos-16, negsuc-16}
 
 -- ---- the number of the sentence that holds
@@ -41,24 +24,15 @@ matrix-given m number g = ap openingNumber (one-opening-sentence m (openingOf m)
 
 -- 0 is the number of one sentence alone
 pub admitted : {s : System} → system .Gives s 0 → Admissible s
-admitted {s} g = by (g .answer) (g .numbered) (g .holds)
-  where
-    by : (v : Admission) → refusalNumber v ≡ 0 → SystemCase s v → Admissible s
-    by Admitted e h = h
-    by WrongCount e h = absurd (omega arith)
-    by OutOfRange e h = absurd (omega arith)
-    by NotAbove e h = absurd (omega arith)
-    by NotBelow e h = absurd (omega arith)
-    by NotLowest e h = absurd (omega arith)
-    by Uncovered e h = absurd (omega arith)
+admitted {s} g = subst (SystemCase s) (not-refused (g .answer) (ap (λ (n : ℕ). not (eqb n 0)) (g .numbered))) (g .holds)
 
 pub opened : {m : List ℤ} → matrix .Gives m 0 → OpeningCase m Opens
 opened {m} g = by (g .answer) (g .numbered) (g .holds)
   where
     by : (v : Opening) → openingNumber v ≡ 0 → OpeningCase m v → OpeningCase m Opens
-    by opening.Opens e h = h
-    by opening.OutOfRange e h = absurd (omega arith)
-    by opening.NotAbove e h = absurd (omega arith)
+    by Opens e h = h
+    by OutOfRange e h = absurd (omega arith)
+    by NotAbove e h = absurd (omega arith)
 
 -- ---- numbers that keep the rules are signed 16-bit numbers
 

@@ -1,19 +1,10 @@
 -- "A file that reads is never refused by opening or by the run": the matrix of a job that was read opens, and what a run judges before any step is in order, so that every
 -- run of it, on any bytes and with any room, makes its steps.
-use mathlib.Core.Path.{_≡_, sym, subst}
-use mathlib.Core.List.{List}
-use Prim.Native.Nat.{ℕ}
-use Rattle.admission.specs.Types.{Admitted}
-use Rattle.admission.proofs.Laws.{admitted-only}
-use Rattle.unary.specs.Opening.{openOf}
-use Rattle.steps.specs.Step.{setting}
-use Rattle.unary.specs.Run.{stepsOf, runOf}
-use Rattle.unary.specs.Judging.{refusalOf}
-use Rattle.unary.specs.Types.{Opens}
-use Rattle.unary.proofs.Laws.{opens, opened-rules, accepted, run-accepted}
-use Rattle.jobs.specs.declared.Verdict.the-variants.{Reads}
-use Rattle.jobs.specs.declared.Reading.{Reading}
-use Rattle.jobs.specs.declared.Job.{Job}
+use Rattle.whole.proofs.Laws.{_≡_, sym, subst, List, ℕ}
+use Rattle.admission.proofs.Laws.{Admitted, admitted-only}
+use Rattle.steps.proofs.Laws.{setting}
+use Rattle.unary.proofs.Laws.{openOf, stepsOf, runOf, refusalOf, Opens, opens, opened-rules, accepted, run-accepted}
+use Rattle.jobs.specs.Types.{Reads, Reading, Job}
 use Rattle.jobs.specs.Layout.{Contents, Bytes, Rules}
 use Rattle.jobs.specs.Reading.{readingOf, readOf}
 use Rattle.jobs.proofs.ReadsExactly.{reads-laid}

@@ -1,17 +1,8 @@
 -- The laws of numbers in bytes, both ways: what was written is read back, and what was read is written back. First the sign of one number, then many.
-use mathlib.Core.Path.{_≡_, refl, sym, ap, ap₂, _∙_}
-use mathlib.Core.Bool.{Bool, true, false, cond}
-use mathlib.Core.List.{List, [], _∷_, _++_}
-use Prim.Native.Nat.{ℕ, zero, suc, _+_, _*_, _-_, _≤_, _<_}
-use native.Mathlib.Nat.{mod-add-div}
-use native.Mathlib.Omega.{arith}
-use borrow.Author.Tests.{lt-ltb, le-ltb, ltb-true, ltb-false}
-use lib.Dec.{ltb, le→leb, leb→le}
-use lib.ListN.{length}
-use lib.IntN.{ℤ, pos, negsuc, _-ℤ_}
-use Rattle.sections.proofs.Laws.{two-bytes}
-use Rattle.whole.specs.Range.{at}
+use Rattle.whole.proofs.Laws.{_≡_, refl, sym, ap, ap₂, _∙_, Bool, true, false, cond, List, [], _∷_, _++_, ℕ, zero, suc, _+_, _*_, _-_, _≤_, _<_, mod-add-div, arith, lt-ltb, le-ltb, ltb-true, ltb, le→leb, leb→le, length, ℤ, pos, negsuc, _-ℤ_, at}
 use Rattle.plane.proofs.Laws.{four, four-equal}
+use Rattle.sections.proofs.Laws.{two-bytes}
+use borrow.Author.Tests.{ltb-false}
 use Rattle.jobs.specs.Layout.{twoBytes, complement, numbersBytes, Bytes}
 use Rattle.jobs.specs.Sections.{Signed16, Sixteen, signed, numberAt, numbersIn}
 

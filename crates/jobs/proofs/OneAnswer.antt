@@ -1,11 +1,7 @@
 -- "That no second answer fits is itself proved": the promise of `read` is an equation, so that two answers which keep it are the same; and no file both reads as a job
 -- and is refused, or is refused in two ways.
-use mathlib.Core.Path.{_≡_, sym, ap, _∙_}
-use mathlib.Core.List.{List}
-use Prim.Native.Nat.{ℕ}
-use native.Mathlib.Omega.{arith}
-use Rattle.jobs.specs.declared.Verdict.the-variants.{Reads, Refused}
-use Rattle.jobs.specs.declared.Reading.{Reading}
+use Rattle.whole.proofs.Laws.{_≡_, sym, ap, _∙_, List, ℕ, arith}
+use Rattle.jobs.specs.Types.{Reads, Refused, Reading}
 use Rattle.jobs.specs.Layout.{Contents}
 use Rattle.jobs.specs.Reading.{readingOf, readOf}
 use Rattle.jobs.specs.Reads.{ReadsAs}

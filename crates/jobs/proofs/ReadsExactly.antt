@@ -1,22 +1,15 @@
 -- A job file is read exactly by its layout. `reads-exactly`: a file reads as a job exactly if it is that job's layout and the contents keep the rules. `refuses-exactly`: a
 -- file is refused by a number in a section exactly if document 01's sentence for that number holds there and every section before keeps the rules. `read-says`: one of the
 -- two is the case for every file. Each is what holds of every file of sections.
-use mathlib.Core.Path.{_≡_, refl, sym, ap, _∙_, subst}
-use mathlib.Core.List.{List, _++_, append-nil, append-assoc}
-use mathlib.Core.Logic.{_↔_}
-use Prim.Native.Nat.{ℕ, _+_, _≤_}
-use native.Mathlib.Omega.{arith}
-use lib.ListN.{length, take, drop, length-append}
-use lib.Seq.{drop-at, take-length}
-use lib.IntN.{ℤ}
+use Rattle.whole.proofs.Laws.{_≡_, refl, sym, ap, _∙_, subst, List, _++_, append-nil, append-assoc, _↔_, ℕ, _+_, _≤_, arith, length, take, drop, length-append, drop-at}
+use Rattle.digits.proofs.Laws.{System}
+use Rattle.admission.proofs.Laws.{Admitted}
+use Rattle.unary.proofs.Laws.{Opens}
+use Rattle.sections.proofs.Laws.{Exact, reads, refuses}
+use lib.Seq.{take-length}
 use Rattle.sections.specs.Section.{Rules as Kept}
-use Rattle.sections.specs.File.{Exact, reads, refuses, Says as FileSays}
-use Rattle.digits.specs.Types.{System}
-use Rattle.admission.specs.Types.{Admitted}
-use Rattle.unary.specs.Types.{Opens}
-use Rattle.jobs.specs.declared.Verdict.{Verdict}
-use Rattle.jobs.specs.declared.Verdict.the-variants.{Reads, Refused}
-use Rattle.jobs.specs.declared.Reading.{Reading}
+use Rattle.sections.specs.File.{Says as FileSays}
+use Rattle.jobs.specs.Types.{Verdict, Reads, Refused, Reading}
 use Rattle.jobs.specs.Layout.{Contents, twoBytes, systemBytes, matrixBytes, wordBytes, layoutOf, Bytes, SystemRules, Rules}
 use Rattle.jobs.specs.Sections.{system}
 use Rattle.jobs.specs.Reading.{wordStart, readingOf, refused, Parts, job, contentsOf, readOf}

@@ -1,15 +1,8 @@
 -- The three kinds of section keep the laws of a section, and so the job file is read exactly as its words say.
-use mathlib.Core.Path.{_≡_, refl, sym, ap, _∙_}
-use mathlib.Core.List.{List, _++_}
-use Prim.Native.Nat.{ℕ, _*_, _-_}
-use native.Mathlib.Omega.{arith}
-use lib.ListN.{length, take, replicate}
-use lib.Seq.{take-at}
-use lib.IntN.{ℤ, pos}
+use Rattle.whole.proofs.Laws.{_≡_, refl, sym, ap, _∙_, List, _++_, ℕ, _*_, _-_, arith, length, take, replicate, take-at, ℤ, pos}
+use Rattle.digits.proofs.Laws.{filled}
+use Rattle.sections.proofs.Laws.{Lawful, nothing-lawful, then-lawful}
 use Rattle.sections.specs.Section.{Lawful as LawfulSection}
-use Rattle.sections.specs.File.{Lawful}
-use Rattle.sections.proofs.Laws.{nothing-lawful, then-lawful}
-use Rattle.digits.specs.BuiltIn.{filled}
 use Rattle.jobs.specs.Layout.{twoBytes, numbersBytes, rowsOf, Bytes}
 use Rattle.jobs.specs.Sections.{Sixteen, numbersIn, system, matrix, word}
 use Rattle.jobs.specs.Reading.{job}

@@ -4,6 +4,7 @@
 --   Reading    the job file as four sections, and what `read` answers
 --   Reads      when a file reads as a job
 --   Refuses    when a file is refused by a number in a section
+pub mod Types
 pub mod Layout
 pub mod Sections
 pub mod Reading

@@ -7,9 +7,7 @@ use lib.IntN.{ℤ, pos}
 use Rattle.sections.specs.File.{File, nothing, _then_}
 use Rattle.digits.specs.Types.{System}
 use Rattle.unary.specs.Opening.{noMatrix}
-use Rattle.jobs.specs.declared.Verdict.the-variants.{Reads, Refused}
-use Rattle.jobs.specs.declared.Job.{Job}
-use Rattle.jobs.specs.declared.Reading.{Reading}
+use Rattle.jobs.specs.Types.{Reads, Refused, Job, Reading}
 use Rattle.jobs.specs.Layout.{Contents}
 use Rattle.jobs.specs.Sections.{system, matrix, word}
 

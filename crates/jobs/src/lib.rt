@@ -49,18 +49,14 @@ pub struct MatrixSection {
     pub matrix: [i64; 4],
 }
 
-fn wide(byte: u8) -> usize
-    ensures { λ r. ⌜ (r ≡ byte) × (r < 256) ⌝ }
-{
-    byte as usize
-}
-
 // Two bytes, low byte first.
 fn pair_at(bytes: &[u8], p: usize) -> usize
     requires { ⌜ p + 2 ≤ length (now bytes) ⌝ }
     ensures { λ r. ⌜ (r ≡ pairAt (now (bytes .entry)) p) × (r < 65536) ⌝ }
 {
-    wide(bytes[p]) + 256 * wide(bytes[p + 1])
+    let low = bytes[p] as usize;
+    let high = bytes[p + 1] as usize;
+    low + 256 * high
 }
 
 // A signed number of two bytes, two's complement.
@@ -169,11 +165,7 @@ fn matrix_section(bytes: &[u8]) -> MatrixSection
 fn refused(number: u8, section: u8) -> Reading
     ensures { λ r. ⌜ r ≡ refusedOf number section ⌝ }
 {
-    let input = System {
-        count: 0,
-        rows: [0i16; 128],
-    };
-    let output = System {
+    let none = System {
         count: 0,
         rows: [0i16; 128],
     };
@@ -182,8 +174,8 @@ fn refused(number: u8, section: u8) -> Reading
         length: 0,
     };
     let job = Job {
-        input,
-        output,
+        input: none,
+        output: none,
         matrix: [0, 0, 0, 0],
         word,
     };
@@ -235,8 +227,6 @@ pub fn read(file: &[u8]) -> Reading
         matrix,
         word,
     };
-    Reading {
-        verdict: Verdict::Reads,
-        job,
-    }
+    let verdict = Verdict::Reads;
+    Reading { verdict, job }
 }

@@ -1,16 +1,9 @@
 -- For code that reads section after section: how an answer about one is made, and how it is used.
+use Rattle.whole.proofs.Laws.{_≡_, refl, sym, ap, _∙_, subst, List, inl, inr, ℕ, suc, _+_, _-_, _≤_, _<_, arith, length, take, drop, length-drop, drop-of-length-le, drop-drop, passed, decided}
 use borrow.Rule.Slice.PartAt.{part-to-end}
-use mathlib.Core.Path.{_≡_, refl, sym, ap, _∙_, subst}
-use mathlib.Core.List.{List}
-use mathlib.Core.Logic.{inl, inr}
-use Prim.Native.Nat.{ℕ, suc, _+_, _-_, _≤_, _<_}
-use native.Mathlib.Omega.{arith}
-use lib.ListN.{length, take, drop, length-drop, drop-of-length-le}
-use lib.Seq.{drop-drop}
-use Rattle.whole.proofs.Laws.{passed, decided}
 use Rattle.sections.specs.Section.{Limits, sizeOf, presence, Present, Section, valueOf, numberOf}
 use Rattle.sections.specs.File.{File, ends, nothing, _then_}
-use Rattle.sections.specs.Answered.{Taken, Answered}
+use Rattle.sections.specs.Answered.{Answered}
 use Rattle.sections.proofs.Presence.{absent-number, presence-says}
 use Rattle.sections.proofs.Sections.{present-number}
 use Rattle.sections.proofs.Files.{follows}
@@ -25,8 +18,8 @@ module _ {A : Type 0} (s : Section A) {bytes : List ℕ} {k n : ℕ} {v : A} whe
   unfolding numberOf
   not-there e f = record { number = e ∙ sym (decided _ _ (λ z. f (e ∙ z))); taken = λ z. absurd (f z) }
 
-  pub judged : Present (s .limits) bytes → n ≡ sizeOf (s .limits) bytes → v ≡ valueOf s bytes → k ≡ s .number v → Answered s bytes k n v
-  judged p size value e =
+  pub answered : Present (s .limits) bytes → n ≡ sizeOf (s .limits) bytes → v ≡ valueOf s bytes → k ≡ s .number v → Answered s bytes k n v
+  answered p size value e =
       record { number = e ∙ ap (s .number) value ∙ sym (present-number s p); taken = λ z. record { present = p; size = size; value = value } }
 
 -- ---- used

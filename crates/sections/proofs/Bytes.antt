@@ -1,11 +1,7 @@
 -- Bytes that begin with a count; the first bytes of many.
-use mathlib.Core.Path.{_≡_, sym, ap, ap₂, _∙_}
-use mathlib.Core.List.{List, [], _∷_, _++_}
-use Prim.Native.Nat.{ℕ, _+_, _*_, _-_, _/_, _%_, _≤_, _<_}
-use native.Mathlib.Decide.{decLt, decLe}
-use native.Mathlib.Omega.{arith}
-use lib.ListN.{length, take, drop, length-take, List·getD-eq-default}
-use lib.Seq.{getD-drop, getD-take, take-all, take-add, drop-at, length-take-le}
+use Rattle.whole.proofs.Laws.{_≡_, sym, ap, ap₂, _∙_, List, [], _∷_, _++_, ℕ, _+_, _*_, _-_, _/_, _%_, _≤_, _<_, decLt, decLe, arith, length, take, drop, List·getD-eq-default, getD-take, take-all, take-add, drop-at, length-take-le}
+use lib.ListN.{length-take}
+use lib.Seq.{getD-drop}
 use Rattle.sections.specs.Bytes.{Bytes, twoBytes, countOf}
 
 pub drop-bytes : {bytes : List ℕ} → Bytes bytes → (q : ℕ) → Bytes (drop q bytes)

@@ -1,20 +1,11 @@
 -- Every file of lawful sections is read exactly as its words say, and settled by its first bytes.
-use mathlib.Core.Path.{_≡_, refl, sym, ap, _∙_, subst}
-use mathlib.Core.List.{List, [], _∷_, _++_}
-use mathlib.Core.Logic.{inl, inr}
-use Prim.Native.Nat.{ℕ, suc, _+_, _-_, _≤_, _<_}
-use native.Mathlib.Nat.{mul-le-mul-left}
-use native.Mathlib.Omega.{arith}
-use lib.ListN.{length, take, drop, length-append}
-use Rattle.whole.specs.Refusal.{unlessRefused}
-use Rattle.whole.proofs.Laws.{passed, decided}
+use Rattle.whole.proofs.Laws.{_≡_, refl, sym, ap, _∙_, subst, List, [], _∷_, _++_, inl, inr, ℕ, suc, _+_, _-_, _≤_, _<_, mul-le-mul-left, arith, length, take, length-append, unlessRefused, passed, decided}
 use Rattle.sections.specs.Bytes.{Bytes}
-use Rattle.sections.specs.Section.{sizeOf, limit, Absent, Present, Section, bytesOf, Rules, Breaks, valueOf, numberOf}
-use Rattle.sections.specs.Section.{Lawful as LawfulSection}
-use Rattle.sections.specs.File.{File, Follows, bytes-follow, ends, nothing, RefusesThen, here, later, _then_, Says, reads, refuses, Exact, Lawful}
+use Rattle.sections.specs.Section.{sizeOf, limit, Section, bytesOf, Rules, valueOf, numberOf, Lawful as LawfulSection}
+use Rattle.sections.specs.File.{File, bytes-follow, ends, nothing, here, later, _then_, Says, reads, refuses, Exact, Lawful}
 use Rattle.sections.proofs.Bytes.{drop-bytes, or-all}
 use Rattle.sections.proofs.Presence.{absent-number, presence-says}
-use Rattle.sections.proofs.Sections.{Begins, Kept, begins, present-number, absent-decides, breaks-number, section-says, absent-same, present-same}
+use Rattle.sections.proofs.Sections.{Begins, begins, present-number, absent-decides, breaks-number, section-says, absent-same, present-same}
 
 -- ---- nothing
 

@@ -1,12 +1,5 @@
 -- Whether a section is there: one law for each way, which the code follows too.
-use mathlib.Core.Path.{_≡_, sym, subst}
-use mathlib.Core.List.{List}
-use mathlib.Core.Logic.{_⊎_, inl, inr}
-use Prim.Native.Nat.{ℕ, _≤_}
-use native.Mathlib.Decide.{decLe}
-use native.Mathlib.Omega.{arith}
-use borrow.Author.Tests.{lt-ltb, le-ltb}
-use lib.ListN.{length}
+use Rattle.whole.proofs.Laws.{_≡_, sym, ap, subst, List, _⊎_, inl, inr, ℕ, _+_, _*_, _≤_, _<_, decLe, arith, lt-ltb, le-ltb, length}
 use Rattle.sections.specs.Bytes.{countOf}
 use Rattle.sections.specs.Section.{Limits, sizeOf, presence, Absent, no-count, too-few, too-many, cut-off, Present}
 
@@ -59,3 +52,17 @@ module _ (l : Limits) (bytes : List ℕ) where
       ]
     ]
   ]
+
+-- as code goes, which holds the count n
+module _ (l : Limits) (bytes : List ℕ) {n : ℕ} (e : n ≡ countOf bytes) (h : 2 ≤ length bytes) where
+  pub few-is : n < l .least → l .wrong ≡ presence l bytes
+  few-is f = sym (absent-is (too-few h (omega arith)))
+
+  pub many-is : l .most < n → l .wrong ≡ presence l bytes
+  many-is m = sym (absent-is (too-many h (omega arith)))
+
+  pub cut-is : l .least ≤ n → n ≤ l .most → length bytes < 2 + l .unit * n → 1 ≡ presence l bytes
+  cut-is f m s = sym (absent-is (cut-off h (omega arith) (omega arith) (omega (arith, ap (λ (k : ℕ). l .unit * k) e))))
+
+  pub whole-is : l .least ≤ n → n ≤ l .most → 2 + l .unit * n ≤ length bytes → 0 ≡ presence l bytes
+  whole-is f m s = sym (present-is (record { some = omega arith; few = omega arith; fits = omega (arith, ap (λ (k : ℕ). l .unit * k) e) }))

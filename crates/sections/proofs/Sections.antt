@@ -1,16 +1,8 @@
 -- A lawful section's number is given exactly when the words say.
-use mathlib.Core.Path.{_≡_, refl, sym, ap, _∙_, subst}
-use mathlib.Core.List.{List, _++_}
-use mathlib.Core.Logic.{_⊎_, inl, inr}
-use Prim.Native.Nat.{ℕ, _+_, _*_, _-_, _≤_, _<_}
-use native.Mathlib.Nat.{mod-add-div, eq-zero-or-pos, mul-le-mul-left}
-use native.Mathlib.Omega.{arith}
-use lib.ListN.{length, take, drop, length-append, length-drop, take-append-drop}
-use lib.Seq.{take-at, drop-at, take-take, drop-drop, length-take-le}
-use Rattle.whole.proofs.Laws.{passed, decided}
+use Rattle.whole.proofs.Laws.{_≡_, sym, ap, _∙_, subst, List, _++_, _⊎_, inl, inr, ℕ, _+_, _*_, _-_, _≤_, _<_, mod-add-div, eq-zero-or-pos, mul-le-mul-left, arith, length, take, drop, length-append, length-drop, take-append-drop, take-at, drop-at, drop-drop, length-take-le, passed, decided}
+use lib.Seq.{take-take}
 use Rattle.sections.specs.Bytes.{twoBytes, countOf, Bytes}
-use Rattle.sections.specs.Section.{sizeOf, limit, presence, Absent, no-count, too-few, too-many, cut-off, Present}
-use Rattle.sections.specs.Section.{Section, bytesOf, Rules, Breaks, absent, broken, valueOf, numberOf, Whole, Lawful}
+use Rattle.sections.specs.Section.{sizeOf, limit, Absent, no-count, too-few, too-many, cut-off, Present, Section, bytesOf, Rules, Breaks, absent, broken, valueOf, numberOf, Whole, Lawful}
 use Rattle.sections.proofs.Bytes.{drop-bytes, take-bytes, count-first, same-count, same-rest}
 use Rattle.sections.proofs.Presence.{absent-is, present-is, absent-number, presence-says}
 

@@ -1,18 +1,8 @@
 -- `jobs::matrix_section` meets its contract: its presence decides, and then its four numbers, as opening judges them.
-use borrow.Author.Needs.{needs}
-use mathlib.Core.Path.{_≡_, sym, ap, _∙_}
-use mathlib.Core.List.{List}
-use Prim.Native.Nat.{ℕ, _*_}
-use native.Mathlib.Omega.{arith}
-use lib.ListN.{take, drop, length-drop}
-use lib.Seq.{length-take-le}
-use denote.Ref.{now}
-use Rattle.sections.specs.Bytes.{countOf}
-use Rattle.sections.specs.Section.{Present}
-use Rattle.sections.proofs.Laws.{present, not-there, judged}
-use Rattle.whole.proofs.Laws.{element-16, widen-fits, widen-back}
+use Rattle.whole.proofs.Laws.{needs, _≡_, sym, ap, _∙_, ℕ, _*_, arith, take, drop, length-drop, length-take-le, now, element-16, widen-fits, widen-back}
 use Rattle.plane.proofs.Laws.{four-equal}
-use Rattle.unary.specs.Opening.{openingNumber}
+use Rattle.unary.proofs.Laws.{openingNumber}
+use Rattle.sections.proofs.Laws.{countOf, Present, present, not-there, answered}
 use Rattle.jobs.specs.Sections.{numbersIn, matrix}
 use Rattle.jobs.proofs.Numbers.{four-numbers}
 use Rattle.jobs.proofs.matrix_section.Statement.{statement}
@@ -33,28 +23,15 @@ returns-2 c =
     (widen-back (element-16 _ (d .before .before .number-at2 .ok)) ∙ d .before .before .number-at2 .ensures)
     (widen-back (element-16 _ (d .before .number-at3 .ok)) ∙ d .before .number-at3 .ensures)
     (widen-back (element-16 _ (d .number-at4 .ok)) ∙ d .number-at4 .ensures) in
-    judged matrix h (omega (arith, n))
+    answered matrix h (omega (arith, n))
     (numbers ∙ four-numbers (take 8 (drop 2 b)) (length-take-le 8 (drop 2 b) (omega (arith, h .fits, n, length-drop 2 b))) ∙
     ap (λ (k : ℕ). numbersIn (take (2 * k) (drop 2 b))) (sym n))
     (c .opening-number .ensures ∙ ap openingNumber (c .before .opening-of .ensures))
 
 pub matrix-section-spec : {M : Type 1} → statement M
-matrix-section-spec =
-    tie.close
-    (tie.spec
-    (λ c κs. search needs)
-    (λ c. not-there matrix (c .before .presence .ensures) (c .if1 .taken))
-    (λ c. search needs)
-    (λ c. search needs)
-    (λ c. omega (arith, there c .some, there c .fits))
-    (λ c κs. search needs)
-    (λ c. widen-fits (element-16 (c .number-at .result) (c .number-at .ok)))
-    (λ c κs. search needs)
-    (λ c. widen-fits (element-16 (c .number-at2 .result) (c .number-at2 .ok)))
-    (λ c κs. search needs)
-    (λ c. widen-fits (element-16 (c .number-at3 .result) (c .number-at3 .ok)))
-    (λ c κs. search needs)
-    (λ c. widen-fits (element-16 (c .number-at4 .result) (c .number-at4 .ok)))
-    (λ c κs. search needs)
-    (λ c κs. search needs)
-    returns-2)
+matrix-section-spec = tie.close (tie.spec
+    (λ c κs. search needs) (λ c. not-there matrix (c .before .presence .ensures) (c .if1 .taken)) (λ c. search needs) (λ c. search needs)
+    (λ c. omega (arith, there c .some, there c .fits)) (λ c κs. search needs) (λ c. widen-fits (element-16 (c .number-at .result) (c .number-at .ok)))
+    (λ c κs. search needs) (λ c. widen-fits (element-16 (c .number-at2 .result) (c .number-at2 .ok))) (λ c κs. search needs)
+    (λ c. widen-fits (element-16 (c .number-at3 .result) (c .number-at3 .ok))) (λ c κs. search needs)
+    (λ c. widen-fits (element-16 (c .number-at4 .result) (c .number-at4 .ok))) (λ c κs. search needs) (λ c κs. search needs) returns-2)

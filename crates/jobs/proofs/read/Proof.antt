@@ -1,23 +1,8 @@
 -- `jobs::read` meets its contract: the number of the first section that is refused, or 2, or the job. Behind each section that passes, the rest of the file decides (`Reached`).
-use borrow.Author.Needs.{needs}
-use borrow.Rule.Slice.PartAt.{part-to-end}
-use mathlib.Core.Path.{_≡_, refl, sym, ap, _∙_}
-use mathlib.Core.List.{List}
-use mathlib.Core.Logic.{inl, inr}
-use Prim.Native.Nat.{ℕ, _+_, _*_}
-use native.Mathlib.Nat.{eq-zero-or-pos}
-use native.Mathlib.Omega.{arith}
-use lib.ListN.{length, take, drop, length-drop}
-use lib.Seq.{length-take-le}
-use denote.Ref.{now}
-use Rattle.sections.specs.Bytes.{countOf}
-use Rattle.sections.specs.Section.{sizeOf, presence, Present, valueOf}
-use Rattle.sections.specs.File.{nothing, _then_}
-use Rattle.sections.specs.Answered.{Taken, Answered}
-use Rattle.sections.proofs.Laws.{present, not-there, judged, Reached, from, at-0, left, start, stops, goes, ended, followed}
-use Rattle.digits.specs.Types.{System}
-use Rattle.jobs.specs.declared.Verdict.the-variants.{Reads}
-use Rattle.jobs.specs.declared.Reading.{Reading}
+use Rattle.whole.proofs.Laws.{needs, _≡_, refl, sym, ap, _∙_, List, inl, inr, ℕ, _+_, _*_, eq-zero-or-pos, arith, length, drop, length-drop, length-take-le, now}
+use Rattle.digits.proofs.Laws.{System}
+use Rattle.sections.proofs.Laws.{countOf, sizeOf, presence, Present, valueOf, nothing, _then_, Taken, Answered, present, not-there, answered, Reached, at-0, left, start, stops, goes, ended, followed}
+use Rattle.jobs.specs.Types.{Reads, Reading}
 use Rattle.jobs.specs.Sections.{system, matrix, word}
 use Rattle.jobs.specs.Reading.{bytesOf, readingOf, refused, Parts, job, contentsOf, readOf}
 use Rattle.jobs.proofs.read.Statement.{statement}
@@ -29,7 +14,7 @@ answer p = readingOf (contentsOf p)
 -- a word is refused by its presence alone
 word-answered : {bytes : List ℕ} {k : ℕ} → k ≡ presence (word .limits) bytes → Answered word bytes k (sizeOf (word .limits) bytes) (valueOf word bytes)
 word-answered {bytes} {k} e = elim (eq-zero-or-pos k) [
-  | inl z ↦ judged word (present (word .limits) bytes (omega arith) e z) refl refl z
+  | inl z ↦ answered word (present (word .limits) bytes (omega arith) e z) refl refl z
   | inr n ↦ not-there word e (λ z. omega arith)
 ]
 
@@ -107,37 +92,12 @@ returns-6 c =
     }) ∙ ended (goes (third e) w refl (f .if4 .left)) (omega (arith, left (third e), n .pair-at .ensures, c .before .before .before .if5 .left))
 
 pub read-spec : {M : Type 1} → statement M
-read-spec =
-    tie.close
-    (tie.spec
-    (λ c κs. search needs)
-    (λ c κs. search needs)
-    returns
-    (λ c. first c .there)
-    (λ c. first c .there)
-    (λ c. search needs)
-    (λ c κs. search needs)
-    (λ c κs. search needs)
-    returns-2
-    (λ c. omega (arith, second (c .before) .there))
-    (λ c. second (c .before) .there)
-    (λ c. second (c .before) .there)
-    (λ c. search needs)
-    (λ c κs. search needs)
-    (λ c κs. search needs)
-    returns-3
-    (λ c. omega (arith, third (c .before) .there))
-    (λ c. third (c .before) .there)
-    (λ c. third (c .before) .there)
-    (λ c. search needs)
-    (λ c κs. search needs)
-    (λ c κs. search needs)
-    returns-4
-    (λ c κs. omega (arith, word-answered (c .before .presence .ensures) .taken (c .if4 .left) .present .fits))
-    (λ c. search needs)
-    (λ c κs. search needs)
+read-spec = tie.close (tie.spec
+    (λ c κs. search needs) (λ c κs. search needs) returns (λ c. first c .there) (λ c. first c .there) (λ c. search needs) (λ c κs. search needs)
+    (λ c κs. search needs) returns-2 (λ c. omega (arith, second (c .before) .there)) (λ c. second (c .before) .there) (λ c. second (c .before) .there)
+    (λ c. search needs) (λ c κs. search needs) (λ c κs. search needs) returns-3 (λ c. omega (arith, third (c .before) .there)) (λ c. third (c .before) .there)
+    (λ c. third (c .before) .there) (λ c. search needs) (λ c κs. search needs) (λ c κs. search needs) returns-4
+    (λ c κs. omega (arith, word-answered (c .before .presence .ensures) .taken (c .if4 .left) .present .fits)) (λ c. search needs) (λ c κs. search needs)
     returns-5
-    (λ c. let f = c .before .before .before .before .before in let e = f .before .before .before .before in
-    let entry = e .before .before .before .before .before .before .before .before .before .before in
-    omega (arith, third e .there, entry))
+    (λ c. let f = c .before .before .before .before .before in let e = f .before .before .before .before in let entry = e .before .before .before .before .before .before .before .before .before .before in omega (arith, third e .there, entry))
     returns-6)

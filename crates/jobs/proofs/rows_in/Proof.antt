@@ -1,18 +1,8 @@
 -- `jobs::rows_in` meets its contract. The invariant: the first i numbers stand in their places, with 0 behind them.
-use borrow.Author.Needs.{needs}
-use mathlib.Core.Path.{_≡_, refl, sym, ap, ap₂, _∙_}
-use mathlib.Core.List.{List, [], _∷_, _++_}
-use Prim.Native.Nat.{ℕ, suc, _+_, _-_, _≤_, _<_}
-use native.Mathlib.Numerals.{add-one}
-use native.Mathlib.Omega.{arith}
-use lib.ListN.{length, set, take, replicate, length-append}
-use lib.Seq.{take-suc, take-all, set-at, append-snoc, length-take-le}
-use lib.IntN.{ℤ, pos}
+use Rattle.whole.proofs.Laws.{needs, _≡_, refl, sym, ap, ap₂, _∙_, List, [], _∷_, _++_, ℕ, suc, _+_, _-_, _≤_, _<_, add-one, arith, length, set, take, replicate, length-append, take-suc, take-all, length-take-le, ℤ, pos, now, at, element-16}
+use Rattle.digits.proofs.Laws.{filled}
+use lib.Seq.{set-at, append-snoc}
 use mir.Facts.{toZ-ofZ}
-use denote.Ref.{now}
-use Rattle.whole.specs.Range.{at}
-use Rattle.whole.proofs.Laws.{element-16}
-use Rattle.digits.specs.BuiltIn.{filled}
 use Rattle.jobs.specs.Sections.{numbersIn}
 use Rattle.jobs.proofs.Numbers.{number-is, numbers-length}
 use Rattle.jobs.proofs.rows_in.Statement.{statement}
@@ -50,17 +40,6 @@ returns c =
     c .before .loop .inv .1 ∙ ap filled (take-all (c .before .loop .i) (numbersIn bytes) (omega (arith, numbers-length (a .args .k) bytes (a .pre .0))))
 
 pub rows-in-spec : {M : Type 1} → statement M
-rows-in-spec =
-    tie.close
-    (tie.spec
-    Inv-loop
-    μ-loop
-    (λ c. (search needs, refl))
-    (λ c. search needs)
-    (λ c κs. search needs)
-    (λ c. search needs)
-    (λ c. search needs)
-    (λ c. search needs)
-    (λ c. search needs)
-    loop-again
-    returns)
+rows-in-spec = tie.close (tie.spec
+    Inv-loop μ-loop (λ c. (search needs, refl)) (λ c. search needs) (λ c κs. search needs) (λ c. search needs) (λ c. search needs) (λ c. search needs)
+    (λ c. search needs) loop-again returns)
