@@ -9,6 +9,6 @@ pub record Responds (file room room′ old new : List ℕ) (r : ℕ) : Type 0 wh
   pub size : r ≡ length (printed file room)
   pub text : new ≡ printed file room ++ drop r old
   pub digits : room′ ≡ filledBy file room
-  -- so many bytes are there: a program that writes them needs no proof of its own
+  -- so many bytes are there, which is what a program has to know to write them
   pub inside : r ≤ length new
   pub front : r ≡ length (take r new)

@@ -1,74 +1,9 @@
 // What the program prints: document 01's section "The program". `respond` answers a job file with its text; the programs call it and lend it large enough buffers, plug-ins
-// do not. The rest writes the lines.
-ghost use mathlib.Core.List.{[], _∷_, _++_};
-ghost use Prim.Native.Nat.{_+_, _*_, _≤_};
+// do not.
+ghost use Prim.Native.Nat.{_≤_};
 ghost use lib.ListN.{length};
-ghost use Rattle.text.specs.Wrote.{Wrote};
-ghost use Rattle.printed.specs.Text.{heldText, countsLine, stateLine, answerText, refusedText};
 ghost use Rattle.printed.specs.Responds.{Responds};
 use jobs::Verdict;
-use steps::Held;
-use steps::State;
-use unary::Answer;
-
-// The first line.
-fn put_counts(out: &mut [u8], at: usize, end: u8, taken: usize, written: usize) -> usize
-    requires { ⌜ at + 63 ≤ length (now out) ⌝ }
-    ensures { λ r. ⌜ Wrote (now (out .entry)) at (countsLine end taken written) 63 (now (out .exit)) r ⌝ }
-{
-    let a = text::put_field(out, at, end as u64, b' ');
-    let b = text::put_field(out, a, taken as u64, b' ');
-    text::put_field(out, b, written as u64, b'\n')
-}
-
-// The second line's last field, and the line's end.
-fn put_held(out: &mut [u8], at: usize, held: Held) -> usize
-    requires { ⌜ at + 21 ≤ length (now out) ⌝ }
-    ensures { λ r. ⌜ Wrote (now (out .entry)) at (heldText held ++ (10 ∷ [])) 21 (now (out .exit)) r ⌝ }
-{
-    match held {
-        Held::Nothing => text::put_text(out, at, b"-\n"),
-        Held::Digit(d) => text::put_field(out, at, d as u64, b'\n'),
-    }
-}
-
-// The second line.
-fn put_state(out: &mut [u8], at: usize, s: State) -> usize
-    requires { ⌜ at + 109 ≤ length (now out) ⌝ }
-    ensures { λ r. ⌜ Wrote (now (out .entry)) at (stateLine s) 109 (now (out .exit)) r ⌝ }
-{
-    let m = s.matrix;
-    let held = s.held;
-    let a = text::put_signed(out, at, m[0], b' ');
-    let b = text::put_signed(out, a, m[1], b' ');
-    let c = text::put_signed(out, b, m[2], b' ');
-    let d = text::put_signed(out, c, m[3], b' ');
-    put_held(out, d, held)
-}
-
-// The three lines of a run's answer, with the bytes of its output.
-fn put_answer(out: &mut [u8], answer: Answer, output: &[u8]) -> usize
-    requires { ⌜ (40000 ≤ length (now out)) × (length (now output) ≤ 8192) × (answer .written .0 ≤ length (now output)) ⌝ }
-    ensures { λ r. ⌜ Wrote (now (out .entry)) 0 (answerText answer (now (output .entry))) 40000 (now (out .exit)) r ⌝ }
-{
-    let n = answer.written.0;
-    let state = answer.state;
-    let stop = answer.stop;
-    let end = steps::end_number(stop);
-    let a = put_counts(out, 0, end, answer.taken.0, n);
-    let b = put_state(out, a, state);
-    text::put_line(out, b, &output[..n])
-}
-
-// The one line of a refused file.
-fn put_refusal(out: &mut [u8], number: u8, section: u8) -> usize
-    requires { ⌜ 40000 ≤ length (now out) ⌝ }
-    ensures { λ r. ⌜ Wrote (now (out .entry)) 0 (refusedText number section) 40000 (now (out .exit)) r ⌝ }
-{
-    let a = text::put_text(out, 0, b"refused ");
-    let b = text::put_field(out, a, number as u64, b' ');
-    text::put_field(out, b, section as u64, b'\n')
-}
 
 // Answers a job file: reads it, opens its matrix, runs its word into `digits`, and writes what the program prints from the front of `out` on; hands back how many bytes
 // that is.
@@ -78,20 +13,18 @@ pub fn respond(file: &[u8], digits: &mut [u8], out: &mut [u8]) -> usize
 {
     let reading = jobs::read(file);
     let verdict = reading.verdict;
-    let job = reading.job;
     match verdict {
-        Verdict::Refused(number, section) => put_refusal(out, number, section),
+        Verdict::Refused(number, section) => lines::put_refusal(out, number, section),
         Verdict::Reads => {
-            let matrix = job.matrix;
-            let input = job.input;
-            let output = job.output;
-            let word = job.word;
+            let matrix = reading.job.matrix;
+            let input = reading.job.input;
+            let output = reading.job.output;
             let start = unary::open(matrix);
             let state = start.state;
-            let a = word.start;
-            let e = a + word.length;
+            let a = reading.job.word.start;
+            let e = a + reading.job.word.length;
             let answer = unary::run(input, output, state, &file[a..e], digits);
-            put_answer(out, answer, digits)
+            lines::put_answer(out, answer, digits)
         }
     }
 }

@@ -1,12 +1,6 @@
 -- Decimal digits. What holds of a number's digits is proved one digit at a time (`each`), and so is that they say the number.
-use mathlib.Core.Path.{_≡_, refl, sym, ap, _∙_}
-use mathlib.Core.List.{List, [], _∷_, _++_}
-use mathlib.Core.Logic.{inl, inr}
-use Prim.Native.Nat.{ℕ, zero, suc, _+_, _*_, _-_, _/_, _%_, _^_, _≤_, _<_}
-use native.Mathlib.Nat.{pow-suc, div-lt-iff-lt-mul, eq-zero-or-pos}
-use native.Mathlib.Omega.{arith}
-use borrow.Author.Tests.{lt-ltb, le-ltb}
-use lib.ListN.{length, getD, length-append, List·getD-append}
+use Rattle.whole.proofs.Laws.{_≡_, refl, ap, _∙_, List, [], _∷_, _++_, inl, inr, ℕ, zero, suc, _+_, _*_, _-_, _/_, _%_, _^_, _≤_, _<_, eq-zero-or-pos, arith, lt-ltb, le-ltb, length, getD, length-append, List·getD-append}
+use native.Mathlib.Nat.{pow-suc, div-lt-iff-lt-mul}
 use Rattle.text.specs.Number.{glyph, digitsBy, decimal, valueBy}
 
 one-digit : (k n : ℕ) → n < 10 → digitsBy (suc k) n ≡ glyph (n % 10) ∷ []

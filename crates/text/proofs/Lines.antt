@@ -1,10 +1,5 @@
 -- The laws of a line of numbers, as it is written: no field, one field more, the last field.
-use mathlib.Core.Path.{_≡_, refl}
-use mathlib.Core.List.{List, [], _∷_, _++_, map}
-use Prim.Native.Nat.{ℕ, zero, suc, _+_, _≤_, _<_}
-use native.Mathlib.Numerals.{add-one}
-use native.Mathlib.Omega.{arith}
-use lib.ListN.{length, getD, drop, length-append}
+use Rattle.whole.proofs.Laws.{_≡_, refl, List, [], _∷_, _++_, map, ℕ, zero, suc, _+_, _≤_, _<_, add-one, arith, length, getD, drop, length-append}
 use Rattle.text.specs.Number.{decimal}
 use Rattle.text.specs.Line.{lineOf}
 use Rattle.text.proofs.Decimals.{few-digits}

@@ -1,11 +1,6 @@
 -- The laws of texts that are written into a buffer.
-use mathlib.Core.Path.{_≡_, sym, ap, ap₂, _∙_, subst}
-use mathlib.Core.List.{List, [], _∷_, _++_}
-use Prim.Native.Nat.{ℕ, suc, _+_, _≤_, _<_}
-use native.Mathlib.Numerals.{add-one}
-use native.Mathlib.Omega.{arith}
-use lib.ListN.{length, getD, take, drop, set, length-append}
-use lib.Seq.{sets, sets-eq, take-suc, length-take-le}
+use Rattle.whole.proofs.Laws.{_≡_, sym, ap, ap₂, _∙_, subst, List, [], _∷_, _++_, ℕ, suc, _+_, _≤_, _<_, le-trans, add-one, arith, length, getD, take, drop, set, length-append, sets, take-suc, length-take-le}
+use lib.Seq.{sets-eq}
 use Rattle.text.specs.Wrote.{Wrote}
 
 sets-sets : (s t l : List ℕ) (i : ℕ) → sets l i (s ++ t) ≡ sets (sets l i s) (i + length s) t
@@ -22,12 +17,12 @@ and-then {old} {s} {mid} {t} {new} {at} p q = record {
   bytes = q .bytes ∙ ap₂ (λ (l : List ℕ) (i : ℕ). sets l i t) (p .bytes) (p .place) ∙ sym (sets-sets s t old at);
 }
 
--- the same text under another name; another bound
+-- the same text under another name; a larger bound
 pub wrote-as : {old s t new : List ℕ} {at j r : ℕ} → s ≡ t → Wrote old at s j new r → Wrote old at t j new r
 wrote-as {old} {s} {t} {new} {at} {j} {r} e p = subst (λ (x : List ℕ). Wrote old at x j new r) e p
 
-pub at-most : {old s new : List ℕ} {at j k r : ℕ} → length s ≤ k → Wrote old at s j new r → Wrote old at s k new r
-at-most h p = record { place = p .place; few = h; bytes = p .bytes }
+pub at-most : {old s new : List ℕ} {at j k r : ℕ} → j ≤ k → Wrote old at s j new r → Wrote old at s k new r
+at-most h p = record { place = p .place; few = le-trans (p .few) h; bytes = p .bytes }
 
 -- what is written from the front on: the text, and behind it what stood there
 pub from-front : {old s new : List ℕ} {j r : ℕ} → Wrote old 0 s j new r → j ≤ length old → new ≡ s ++ drop r old

@@ -1,5 +1,5 @@
 -- Text, as definitions.
---   Text     bytes of a text
+--   Text     a text that is written out
 --   Wrote    where a text stands in a buffer
 --   Number   how a number is written
 --   Line     how a line of fields is written

@@ -1,10 +1,11 @@
--- How a number is written: in decimal, with no 0 in front. A text is a list of bytes (ASCII).
+-- How a number is written: in decimal, with no 0 in front.
 use mathlib.Core.Bool.{cond}
 use mathlib.Core.List.{List, [], _∷_, _++_}
 use Prim.Native.Nat.{ℕ, zero, suc, _+_, _*_, _-_, _/_, _%_}
 use Prim.Native.Char.{code}
 use lib.Dec.{ltb}
-use lib.IntN.{ℤ, pos, negsuc}
+use lib.IntN.{ℤ, pos, natAbs}
+use lib.Signed.{ltZ}
 use Rattle.text.specs.Text.{bytesOf}
 
 -- the byte of a decimal digit
@@ -16,7 +17,7 @@ unfoldable pub digitsBy : ℕ → ℕ → List ℕ
 digitsBy zero n = []
 digitsBy (suc k) n = let front = digitsBy k (n / 10) in cond (ltb n 10) [] front ++ (glyph (n % 10) ∷ [])
 
--- a number has no more digits than this
+-- no number has more digits than n + 1
 unfoldable pub decimal : ℕ → List ℕ
 decimal n = digitsBy (suc n) n
 
@@ -26,6 +27,6 @@ abbrev pub valueBy : ℕ → List ℕ → ℕ
 valueBy front [] = front
 valueBy front (b ∷ bs) = valueBy (10 * front + (b - code "0")) bs
 
+-- `-` where a number is below 0, and how far it lies from 0
 unfoldable pub signedText : ℤ → List ℕ
-signedText (pos n) = decimal n
-signedText (negsuc n) = bytesOf "-" ++ decimal (suc n)
+signedText z = cond (ltZ z (pos 0)) (bytesOf "-") [] ++ decimal (natAbs z)

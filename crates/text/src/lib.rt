@@ -1,4 +1,5 @@
-// Text in a buffer, written forward: each function writes from a place `at` on and hands back the place behind what it wrote. The text is bytes (ASCII).
+// Text in a buffer, written forward: each function writes from a place `at` on and hands back the place behind what it wrote. Each asks for
+// room and says how much it takes at most.
 ghost use mathlib.Core.List.{[], _∷_, _++_, map};
 ghost use Prim.Native.Nat.{_+_, _*_, _≤_};
 ghost use lib.ListN.{length};
@@ -6,7 +7,8 @@ ghost use Rattle.text.specs.Wrote.{Wrote};
 ghost use Rattle.text.specs.Number.{decimal, signedText};
 ghost use Rattle.text.specs.Line.{lineOf};
 
-pub fn put(out: &mut [u8], at: usize, byte: u8) -> usize
+// One byte.
+fn put(out: &mut [u8], at: usize, byte: u8) -> usize
     requires { ⌜ at + 1 ≤ length (now out) ⌝ }
     ensures { λ r. ⌜ Wrote (now (out .entry)) at (byte ∷ []) 1 (now (out .exit)) r ⌝ }
 {
@@ -14,6 +16,7 @@ pub fn put(out: &mut [u8], at: usize, byte: u8) -> usize
     at + 1
 }
 
+// A text that is written out, as b"refused".
 pub fn put_text(out: &mut [u8], at: usize, text: &[u8]) -> usize
     requires { ⌜ at + length (now text) ≤ length (now out) ⌝ }
     ensures { λ r. ⌜ Wrote (now (out .entry)) at (now (text .entry)) (length (now (text .entry))) (now (out .exit)) r ⌝ }
@@ -27,7 +30,7 @@ pub fn put_text(out: &mut [u8], at: usize, text: &[u8]) -> usize
 }
 
 // A number in decimal: what stands in front of its last digit, then that digit.
-pub fn put_number(out: &mut [u8], at: usize, n: u64) -> usize
+fn put_number(out: &mut [u8], at: usize, n: u64) -> usize
     requires { ⌜ at + 20 ≤ length (now out) ⌝ }
     ensures { λ r. ⌜ Wrote (now (out .entry)) at (decimal n) 20 (now (out .exit)) r ⌝ }
 {
@@ -61,7 +64,7 @@ pub fn put_signed(out: &mut [u8], at: usize, z: i64, behind: u8) -> usize
     put_field(out, at, n, behind)
 }
 
-// A line of numbers.
+// A line of numbers, each of a byte.
 pub fn put_line(out: &mut [u8], at: usize, bytes: &[u8]) -> usize
     requires { ⌜ at + (21 + 4 * length (now bytes)) ≤ length (now out) ⌝ }
     ensures { λ r. ⌜ Wrote (now (out .entry)) at (lineOf (map decimal (now (bytes .entry)))) (1 + 4 * length (now (bytes .entry))) (now (out .exit)) r ⌝ }

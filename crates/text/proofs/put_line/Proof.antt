@@ -1,10 +1,5 @@
 -- `text::put_line` meets its contract. The invariant: what is left is the line of the bytes from i on, and each field has taken four bytes at most.
-use borrow.Author.Needs.{needs}
-use mathlib.Core.Path.{_≡_, refl}
-use mathlib.Core.List.{_++_, map}
-use Prim.Native.Nat.{_+_, _*_, _-_, _≤_}
-use native.Mathlib.Omega.{arith}
-use lib.ListN.{length, getD, drop}
+use Rattle.whole.proofs.Laws.{needs, _≡_, refl, map, _+_, _*_, _-_, _≤_, arith, length, getD, drop}
 use Rattle.text.specs.Number.{decimal}
 use Rattle.text.specs.Line.{lineOf}
 use Rattle.text.proofs.Written.{wrote-as, at-most, Left, left-less, left-none}
@@ -38,24 +33,10 @@ returns-2 c =
     left-none _ (l .loop .inv .3) w (last-field ds (l .loop .i) (omega arith)) (omega (arith, w .place, few))
 
 pub put-line-spec : {M : Type 1} → statement M
-put-line-spec =
-    tie.close
-    (tie.spec
-    Inv-loop
-    μ-loop
-    (λ c κs. search needs)
-    (λ c. search needs)
+put-line-spec = tie.close (tie.spec
+    Inv-loop μ-loop (λ c κs. search needs) (λ c. search needs)
     (λ c. let p = c .before .before in wrote-as (no-field (p .before .before .before .before .before .args .bytes .now) (p .before .before .if1 .taken)) (at-most (omega arith) (p .put .ensures)))
-    (λ c. search needs)
-    (λ c. (search needs, refl, search needs, record { place = refl; bytes = refl }))
-    (λ c. search needs)
-    (λ c. omega (arith, c .shared-slice-known2 .given (c .before .before .before .loop .i)))
-    (λ c κs. search needs)
-    (λ c. search needs)
-    (λ c. search needs)
-    loop-again
-    (λ c. search needs)
-    (λ c. omega (arith, c .shared-slice-known3 .given (c .before .before .before .loop .i)))
-    (λ c κs. search needs)
-    (λ c. search needs)
-    returns-2)
+    (λ c. search needs) (λ c. (search needs, refl, search needs, record { place = refl; bytes = refl })) (λ c. search needs)
+    (λ c. omega (arith, c .shared-slice-known2 .given (c .before .before .before .loop .i))) (λ c κs. search needs) (λ c. search needs) (λ c. search needs)
+    loop-again (λ c. search needs) (λ c. omega (arith, c .shared-slice-known3 .given (c .before .before .before .loop .i))) (λ c κs. search needs)
+    (λ c. search needs) returns-2)

@@ -1,9 +1,9 @@
--- `printed::put_counts` meets its contract: three fields.
-use borrow.Author.Needs.{needs}
+-- `lines::put_counts` meets its contract: three fields.
+use Rattle.whole.proofs.Laws.{needs}
 use Rattle.text.proofs.Laws.{and-then}
-use Rattle.printed.specs.Text.{countsLine}
-use Rattle.printed.proofs.put_counts.Statement.{statement}
-use Rattle.printed.proofs.put_counts.Tie as tie
+use Rattle.lines.specs.Lines.{countsLine}
+use Rattle.lines.proofs.put_counts.Statement.{statement}
+use Rattle.lines.proofs.put_counts.Tie as tie
 
 returns : tie.Need-returns
 unfolding countsLine

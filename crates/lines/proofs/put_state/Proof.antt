@@ -1,19 +1,11 @@
--- `printed::put_state` meets its contract: the four entries and the held digit.
-use borrow.Author.Needs.{needs}
-use mathlib.Core.Path.{ap}
-use mathlib.Core.List.{List, [], _∷_, _++_}
-use Prim.Native.Nat.{ℕ, _<_, _^_}
-use lib.IntN.{ℤ}
-use lib.Signed.{mag}
+-- `lines::put_state` meets its contract: the four entries and the held digit.
+use Rattle.whole.proofs.Laws.{needs, ap, List, [], _∷_, _++_, ℕ, _<_, _^_, ℤ, mag, back-of}
+use Rattle.text.proofs.Laws.{Wrote, signedText, and-then, wrote-as}
 use mir.Syntax.{w64}
 use mir.Val.{toZ, ofZ}
-use Rattle.whole.proofs.Laws.{back-of}
-use Rattle.text.specs.Wrote.{Wrote}
-use Rattle.text.specs.Number.{signedText}
-use Rattle.text.proofs.Laws.{and-then, wrote-as}
-use Rattle.printed.specs.Text.{stateLine}
-use Rattle.printed.proofs.put_state.Statement.{statement}
-use Rattle.printed.proofs.put_state.Tie as tie
+use Rattle.lines.specs.Lines.{stateLine}
+use Rattle.lines.proofs.put_state.Statement.{statement}
+use Rattle.lines.proofs.put_state.Tie as tie
 
 -- an entry, which the machine holds as its bits
 entry : {old new : List ℕ} {at r : ℕ} (z : ℤ) → mag z < 2 ^ 63 → Wrote old at (signedText (toZ w64 (ofZ w64 z)) ++ (32 ∷ [])) 22 new r →
@@ -34,17 +26,6 @@ returns c =
     (and-then (entry _ (e3 .before .put-signed-arg8 .given) (e3 .put-signed4 .ensures)) (h .put-held .ensures))))
 
 pub put-state-spec : {M : Type 1} → statement M
-put-state-spec =
-    tie.close
-    (tie.spec
-    (λ c. search needs)
-    (λ c κs. search needs)
-    (λ c. search needs)
-    (λ c κs. search needs)
-    (λ c. search needs)
-    (λ c κs. search needs)
-    (λ c. search needs)
-    (λ c κs. search needs)
-    (λ c κs. search needs)
-    (λ c. search needs)
-    returns)
+put-state-spec = tie.close (tie.spec
+    (λ c. search needs) (λ c κs. search needs) (λ c. search needs) (λ c κs. search needs) (λ c. search needs) (λ c κs. search needs) (λ c. search needs)
+    (λ c κs. search needs) (λ c κs. search needs) (λ c. search needs) returns)
