@@ -1,12 +1,6 @@
 -- Lists that are copied or written place by place.
-use mathlib.Core.Path.{_≡_, refl, ap, ap₂, _∙_}
-use mathlib.Core.List.{List, [], _∷_, _++_, append-nil}
-use Prim.Native.Nat.{ℕ, zero, suc, _+_, _<_}
-use native.Mathlib.Omega.{arith}
+use Rattle.whole.proofs.Laws.{_≡_, refl, ap, ap₂, _∙_, List, [], _∷_, _++_, append-nil, ℕ, zero, suc, _+_, _<_, arith, add-one, ℤ, pos, length, length-set, take, drop, set, getD}
 use native.Mathlib.Nat.{zero-add}
-use native.Mathlib.Numerals.{add-one}
-use lib.IntN.{ℤ, pos}
-use lib.ListN.{length, length-set, take, drop, set, getD}
 use lib.Seq.{paste-suc, drop-length}
 
 -- the first i numbers of one list stand over those of another, whose rest stands as it was

@@ -1,17 +1,9 @@
 -- What a plug-in keeps between two calls is what the library would have kept: the rows of a built-in system, and those of a job's system, are read as that system, and the
 -- five numbers of a state as that state. So the theorems on sessions (crate `meaning`) speak of a plug-in's calls.
-use mathlib.Core.Path.{_≡_, refl, sym, ap, _∙_}
-use mathlib.Core.Bool.{cond}
-use mathlib.Core.List.{List}
-use Prim.Native.Nat.{ℕ, _*_, _-_, _/_, _≤_}
-use native.Mathlib.Omega.{arith}
-use lib.ListN.{length, take, replicate}
-use lib.Seq.{take-at}
-use lib.IntN.{ℤ, pos}
-use borrow.Author.Tests.{le-ltb, le-leb}
-use Rattle.plane.specs.Scale.{entries}
-use Rattle.digits.specs.BuiltIn.{systemOf, filled, joined, rowsR, rowsB, rowsD}
-use Rattle.steps.specs.Types.{Held, Nothing, Digit, State}
+use Rattle.whole.proofs.Laws.{_≡_, refl, ap, _∙_, cond, List, ℕ, _*_, _-_, _/_, _≤_, arith, length, take, replicate, take-at, ℤ, pos, le-ltb, le-leb}
+use Rattle.plane.proofs.Laws.{entries}
+use Rattle.digits.proofs.Laws.{systemOf, filled, joined, rowsR, rowsB, rowsD}
+use Rattle.steps.proofs.Laws.{Held, Nothing, Digit, State}
 use Rattle.numbers.specs.Numbers.{systemFrom, heldNumber, heldFrom, stateNumbers, stateFrom}
 use Rattle.numbers.proofs.Lists.{known}
 

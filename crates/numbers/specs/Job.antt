@@ -5,9 +5,7 @@ use Prim.Native.Nat.{ℕ, _+_, _*_}
 use lib.Dec.{eqb}
 use lib.IntN.{ℤ}
 use Rattle.plane.specs.Scale.{entries}
-use Rattle.jobs.specs.declared.Verdict.{Verdict}
-use Rattle.jobs.specs.declared.Verdict.the-variants.{Reads, Refused}
-use Rattle.jobs.specs.declared.Job.{Job}
+use Rattle.jobs.specs.Types.{Verdict, Reads, Refused, Job}
 use Rattle.numbers.specs.Numbers.{wrongLength}
 
 -- "The answer is the number and the section, 0 to 3": one number, number + 256 · section, and 0 where the file reads

@@ -80,7 +80,7 @@ pub fn state_from(five: &[i64]) -> State
 }
 
 // The four entries of a matrix, over the first four numbers of a slice.
-pub fn put_matrix(m: [i64; 4], to: &mut [i64])
+fn put_matrix(m: [i64; 4], to: &mut [i64])
     requires { ⌜ 4 ≤ length (now to) ⌝ }
     ensures { λ _. ⌜ now (to .exit) ≡ entries m ++ drop 4 (now (to .entry)) ⌝ }
 {

@@ -1,10 +1,7 @@
 -- "That no second answer fits is itself proved": whatever two answers of a C function keep its promise, with whatever they leave in the lent slices, they are the same.
 -- Each promise is an equation with one value, which both are.
-use mathlib.Core.Path.{_≡_, sym, _∙_}
-use mathlib.Core.List.{List}
-use Prim.Native.Nat.{ℕ}
-use lib.IntN.{ℤ}
-use Rattle.numbers.specs.Job.{AfterRead}
+use Rattle.whole.proofs.Laws.{_≡_, sym, _∙_, List, ℕ, ℤ}
+use Rattle.numbers.proofs.Laws.{AfterRead}
 use Rattle.plugin.specs.Calls.{admitNumber, wrote, handedOut, openCall, AfterRun, runCall, readCall}
 
 pub one-admission : (rows : List ℤ) (r r′ : ℕ) → r ≡ admitNumber rows → r′ ≡ admitNumber rows → r ≡ r′

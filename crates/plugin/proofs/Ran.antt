@@ -1,12 +1,8 @@
 -- What a run leaves, from what it answered (`a`, `out`) and what was written of that (`n`, `new`, `counts`).
-use mathlib.Core.Path.{_≡_, ap, _∙_}
-use mathlib.Core.List.{List, [], _∷_}
-use Prim.Native.Nat.{ℕ}
-use lib.IntN.{ℤ}
-use Rattle.unary.specs.Types.{Answer}
-use Rattle.steps.specs.State.{endNumber}
-use Rattle.unary.specs.Run.{Ran}
-use Rattle.numbers.specs.Numbers.{stateAfter}
+use Rattle.whole.proofs.Laws.{_≡_, ap, _∙_, List, [], _∷_, ℕ, ℤ}
+use Rattle.steps.proofs.Laws.{endNumber}
+use Rattle.unary.proofs.Laws.{Answer, Ran}
+use Rattle.numbers.proofs.Laws.{stateAfter}
 use Rattle.plugin.specs.Calls.{afterRun, ranCall}
 
 pub ran-call : (old : List ℤ) {lent ran : Ran} {a : Answer} {out counts : List ℕ} {n : ℕ} {new : List ℤ} → lent ≡ ran → (a ≡ lent .answer) × (out ≡ lent .output) →

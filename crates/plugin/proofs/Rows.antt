@@ -1,21 +1,11 @@
 -- Rows that a plug-in lends stand for a system (`systemFrom`), and are judged and run as they are, with no copy: they have the same digits, and no answer depends on
 -- anything else (`unused-rows`, `same-run`).
-use mathlib.Core.Path.{_≡_, ap, _∙_}
-use mathlib.Core.List.{List}
-use Prim.Native.Nat.{ℕ, _/_, _%_}
-use native.Mathlib.Omega.{arith}
-use borrow.Author.Tests.{le-leb}
-use lib.IntN.{ℤ}
-use lib.ListN.{length}
-use Rattle.digits.specs.Types.{System}
-use Rattle.digits.specs.System.{lent, SameDigits}
-use Rattle.digits.proofs.Laws.{filled-same}
-use Rattle.admission.specs.Admission.{admissionOf}
-use Rattle.admission.proofs.Laws.{unused-rows}
-use Rattle.steps.specs.Types.{State}
-use Rattle.unary.specs.Run.{runOf}
-use Rattle.unary.proofs.Laws.{same-run}
-use Rattle.numbers.specs.Numbers.{systemFrom}
+use Rattle.whole.proofs.Laws.{_≡_, ap, _∙_, List, ℕ, _/_, _%_, arith, le-leb, ℤ, length}
+use Rattle.digits.proofs.Laws.{System, lent, SameDigits, filled-same}
+use Rattle.admission.proofs.Laws.{admissionOf, unused-rows}
+use Rattle.steps.proofs.Laws.{State}
+use Rattle.unary.proofs.Laws.{runOf, same-run}
+use Rattle.numbers.proofs.Laws.{systemFrom}
 
 -- the system that lent rows are
 abbrev pub lentRows : List ℤ → System

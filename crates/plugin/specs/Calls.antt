@@ -13,7 +13,7 @@ use Rattle.unary.specs.Types.{Start}
 use Rattle.steps.specs.State.{endNumber}
 use Rattle.unary.specs.Opening.{openingNumber, openOf}
 use Rattle.unary.specs.Run.{Ran, runOf}
-use Rattle.jobs.specs.declared.Reading.{Reading}
+use Rattle.jobs.specs.Types.{Reading}
 use Rattle.jobs.specs.Reading.{readOf}
 use Rattle.numbers.specs.Numbers.{wrongLength, rows?, systemFrom, stateNumbers, stateFrom, stateAfter}
 use Rattle.numbers.specs.Job.{readNumber, AfterRead, afterRead, jobNumbers}

@@ -61,7 +61,10 @@ pub extern "C" fn sled_system_d(rows: &mut [i16]) -> u32
 pub extern "C" fn sled_open(matrix: &[i64], state: &mut [i64]) -> u32
     ensures { λ r. ⌜ wrote r (now (state .exit)) ≡ openCall (now (matrix .entry)) (now (state .entry)) ⌝ }
 {
-    if !((matrix.len() == 4) & (state.len() == 5)) {
+    if matrix.len() != 4 {
+        return WRONG_LENGTH;
+    }
+    if state.len() != 5 {
         return WRONG_LENGTH;
     }
     let start = unary::open(numbers::matrix_from(matrix));
@@ -96,16 +99,10 @@ pub extern "C" fn sled_run(
     ) {
         return WRONG_LENGTH;
     }
+    let inputs = input_rows.len() / 8;
+    let outputs = output_rows.len() / 8;
     let s = numbers::state_from(state);
-    let a = unary::run_lent(
-        input_rows.len() / 8,
-        input_rows,
-        output_rows.len() / 8,
-        output_rows,
-        s,
-        input,
-        output,
-    );
+    let a = unary::run_lent(inputs, input_rows, outputs, output_rows, s, input, output);
     numbers::put_answer(a, state, counts)
 }
 

@@ -1,12 +1,7 @@
 -- `numbers::held_from` meets its contract, by the sign of the number and its size.
-use borrow.Author.Needs.{needs}
-use mathlib.Core.Path.{_≡_, sym, ap, _∙_}
-use mathlib.Core.Bool.{cond}
-use lib.Dec.{ltb}
-use lib.IntN.{natAbs}
+use Rattle.whole.proofs.Laws.{needs, _≡_, sym, ap, _∙_, cond, arith, ltb, natAbs, lt-ltb, le-ltb}
+use Rattle.steps.proofs.Laws.{Digit}
 use mir.Facts.{toZ-ofZ}
-use borrow.Author.Tests.{lt-ltb, le-ltb}
-use Rattle.steps.specs.Types.{Digit}
 use Rattle.numbers.specs.Numbers.{heldFrom}
 use Rattle.numbers.proofs.held_from.Statement.{statement}
 use Rattle.numbers.proofs.held_from.Tie as tie
@@ -29,10 +24,10 @@ size m =
     rw (rw same at (m .before .before .if1 .left), rw same at (m .before .if2 .left), e)
 
 returns-3 : tie.Need-returns-3
-returns-3 c = sym (size (c .before) ∙ rw (lt-ltb _ _ (c .if3 .taken)))
+returns-3 c = sym (size (c .before) ∙ rw (lt-ltb 255 (c .before .magnitude .result) (omega arith)))
 
 returns-4 : tie.Need-returns-4
-returns-4 c = sym (size (c .before) ∙ rw (le-ltb _ _ (c .if3 .left)))
+returns-4 c = sym (size (c .before) ∙ rw (le-ltb 255 (c .before .magnitude .result) (omega arith)))
 
 pub held-from-spec : {M : Type 1} → statement M
 held-from-spec = tie.close (tie.spec returns returns-2 (λ c κs. search needs) returns-3 (λ c. search needs) returns-4)

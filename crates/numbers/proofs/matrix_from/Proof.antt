@@ -1,6 +1,5 @@
 -- `numbers::matrix_from` meets its contract: an i64 holds each of the four numbers.
-use borrow.Author.Needs.{needs}
-use Rattle.whole.proofs.Laws.{ok-back}
+use Rattle.whole.proofs.Laws.{needs, ok-back}
 use Rattle.plane.proofs.Laws.{four-equal}
 use Rattle.numbers.proofs.matrix_from.Statement.{statement}
 use Rattle.numbers.proofs.matrix_from.Tie as tie

@@ -1,7 +1,5 @@
 -- `numbers::put_answer` meets its contract, by whether the run was refused.
-use borrow.Author.Needs.{needs}
-use mathlib.Core.Path.{sym, _∙_}
-use denote.Ref.{now}
+use Rattle.whole.proofs.Laws.{needs, sym, _∙_, now}
 use Rattle.numbers.specs.Numbers.{stateAfter}
 use Rattle.numbers.proofs.Lists.{known}
 use Rattle.numbers.proofs.put_answer.Statement.{statement}
@@ -23,15 +21,5 @@ returns-2 c =
     (e .end-number .ensures, rw (sym (r .before .refused .ensures) ∙ r .if1 .left) (c .before .put-state .ensures), rw (known 0 2 (now (s .args .counts)) (s .pre .1)))
 
 pub put-answer-spec : {M : Type 1} → statement M
-put-answer-spec = tie.close (tie.spec
-    (λ c. search needs)
-    (λ c. search needs)
-    (λ c κs. search needs)
-    (λ c. search needs)
-    (λ c κs. search needs)
-    (λ c. search needs)
-    returns
-    (λ c κs. search needs)
-    (λ c. search needs)
-    (λ c. search needs)
-    returns-2)
+put-answer-spec = tie.close (tie.spec (λ c. search needs) (λ c. search needs) (λ c κs. search needs) (λ c. search needs) (λ c κs. search needs) (λ c. search needs)
+    returns (λ c κs. search needs) (λ c. search needs) (λ c. search needs) returns-2)

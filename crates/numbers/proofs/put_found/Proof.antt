@@ -1,6 +1,5 @@
 -- `numbers::put_found` meets its contract: four counts, into a slice of four.
-use borrow.Author.Needs.{needs}
-use denote.Ref.{now}
+use Rattle.whole.proofs.Laws.{needs, now}
 use Rattle.numbers.proofs.Lists.{known}
 use Rattle.numbers.proofs.put_found.Statement.{statement}
 use Rattle.numbers.proofs.put_found.Tie as tie

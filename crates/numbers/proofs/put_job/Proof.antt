@@ -1,7 +1,5 @@
 -- `numbers::put_job` meets its contract, slice by slice.
-use borrow.Author.Needs.{needs}
-use lib.IntN.{pos}
-use denote.Ref.{now}
+use Rattle.whole.proofs.Laws.{needs, pos, now}
 use Rattle.numbers.specs.Job.{afterRead}
 use Rattle.numbers.proofs.Lists.{known}
 use Rattle.numbers.proofs.put_job.Statement.{statement}
@@ -20,13 +18,5 @@ returns c =
     λ i. afterRead 0 (ins i) (outs i) (four i) (f .put-found .ensures i)
 
 pub put-job-spec : {M : Type 1} → statement M
-put-job-spec = tie.close (tie.spec
-    (λ c κs. search needs)
-    (λ c κs. search needs)
-    (λ c κs. search needs)
-    (λ c κs. search needs)
-    (λ c. search needs)
-    (λ c. search needs)
-    (λ c. search needs)
-    (λ c. search needs)
-    returns)
+put-job-spec = tie.close (tie.spec (λ c κs. search needs) (λ c κs. search needs) (λ c κs. search needs) (λ c κs. search needs) (λ c. search needs)
+    (λ c. search needs) (λ c. search needs) (λ c. search needs) returns)

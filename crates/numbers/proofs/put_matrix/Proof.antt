@@ -1,13 +1,5 @@
 -- `numbers::put_matrix` meets its contract. The invariant: the first i numbers are copied.
-use borrow.Author.Needs.{needs}
-use mathlib.Core.Path.{_≡_, refl, ap, _∙_}
-use mathlib.Core.List.{_++_}
-use Prim.Native.Nat.{ℕ, _-_, _≤_}
-use native.Mathlib.Omega.{arith}
-use lib.IntN.{pos}
-use lib.ListN.{take, drop}
-use denote.Ref.{now}
-use Rattle.whole.proofs.Laws.{ok-back}
+use Rattle.whole.proofs.Laws.{needs, _≡_, refl, ap, _∙_, _++_, ℕ, _-_, _≤_, arith, pos, take, drop, now, ok-back}
 use Rattle.numbers.proofs.Lists.{Copied, copy-one, known}
 use Rattle.numbers.proofs.put_matrix.Statement.{statement}
 use Rattle.numbers.proofs.put_matrix.Tie as tie
@@ -29,14 +21,5 @@ returns c =
     c .before .loop .inv .1 .is ∙ ap (λ (n : ℕ). take n m ++ drop n old) four ∙ rw (known (pos 0) 4 m (search needs))
 
 pub put-matrix-spec : {M : Type 1} → statement M
-put-matrix-spec = tie.close (tie.spec Inv-loop μ-loop
-    (λ c. (search needs, record { same-length = refl; is = refl }))
-    (λ c. search needs)
-    (λ c. search needs)
-    (λ c. search needs)
-    (λ c. search needs)
-    (λ c. search needs)
-    (λ c. search needs)
-    loop-again
-    (λ c. search needs)
-    returns)
+put-matrix-spec = tie.close (tie.spec Inv-loop μ-loop (λ c. (search needs, record { same-length = refl; is = refl })) (λ c. search needs) (λ c. search needs)
+    (λ c. search needs) (λ c. search needs) (λ c. search needs) (λ c. search needs) loop-again (λ c. search needs) returns)

@@ -1,12 +1,6 @@
 -- `numbers::put_rows` meets its contract. The invariant: the first i numbers are copied.
-use borrow.Author.Needs.{needs}
-use mathlib.Core.Path.{_≡_, refl, _∙_}
-use Prim.Native.Nat.{_-_, _≤_}
-use native.Mathlib.Omega.{arith}
-use lib.ListN.{length}
-use lib.Seq.{take-all}
+use Rattle.whole.proofs.Laws.{needs, _≡_, refl, _∙_, _-_, _≤_, arith, length, take-all, element-16}
 use mir.Facts.{toZ-ofZ}
-use Rattle.whole.proofs.Laws.{element-16}
 use Rattle.numbers.proofs.Lists.{Copied, copy-one, copy-all}
 use Rattle.numbers.proofs.put_rows.Statement.{statement}
 use Rattle.numbers.proofs.put_rows.Tie as tie
@@ -30,14 +24,5 @@ returns c =
     let e = copy-all (c .before .loop .inv .1) (omega arith) in (e, λ h. e ∙ rw h (take-all 128 (c .before .before .before .args .s .rows) (omega arith)))
 
 pub put-rows-spec : {M : Type 1} → statement M
-put-rows-spec = tie.close (tie.spec Inv-loop μ-loop
-    (λ c. (search needs, record { same-length = refl; is = refl }))
-    (λ c. search needs)
-    (λ c. search needs)
-    (λ c. search needs)
-    (λ c. search needs)
-    (λ c. search needs)
-    (λ c. search needs)
-    loop-again
-    (λ c. search needs)
-    returns)
+put-rows-spec = tie.close (tie.spec Inv-loop μ-loop (λ c. (search needs, record { same-length = refl; is = refl })) (λ c. search needs) (λ c. search needs)
+    (λ c. search needs) (λ c. search needs) (λ c. search needs) (λ c. search needs) loop-again (λ c. search needs) returns)

@@ -1,10 +1,5 @@
 -- `numbers::put_state` meets its contract: the matrix, and the fifth number behind it.
-use borrow.Author.Needs.{needs}
-use mathlib.Core.Path.{ap₂, _∙_}
-use lib.IntN.{pos}
-use lib.ListN.{set}
-use denote.Ref.{now}
-use Rattle.whole.proofs.Laws.{ok-back}
+use Rattle.whole.proofs.Laws.{needs, ap₂, _∙_, pos, set, now, ok-back}
 use Rattle.numbers.specs.Numbers.{stateNumbers}
 use Rattle.numbers.proofs.Lists.{known}
 use Rattle.numbers.proofs.put_state.Statement.{statement}

@@ -1,8 +1,5 @@
 -- `numbers::read_number` meets its contract: the lengths, and then the two verdicts.
-use borrow.Author.Needs.{needs}
-use mathlib.Core.Path.{_≡_, sym, ap}
-use mathlib.Core.Bool.{true}
-use borrow.Author.Tests.{not-true, not-false}
+use Rattle.whole.proofs.Laws.{needs, _≡_, sym, ap, true, not-true, not-false}
 use Rattle.numbers.specs.Job.{verdictNumber, readLengths?}
 use Rattle.numbers.proofs.read_number.Statement.{statement}
 use Rattle.numbers.proofs.read_number.Tie as tie
@@ -14,13 +11,6 @@ right : (c : tie.Else1) → let a = c .before .args in readLengths? (a .input-ro
 right c = not-false _ (c .if1 .left)
 
 pub read-number-spec : {M : Type 1} → statement M
-read-number-spec = tie.close (tie.spec
-    returns
-    (λ c. search needs)
-    (λ c. search needs)
-    (λ c. search needs)
-    (λ c. search needs)
-    (λ c. search needs)
-    (λ c. search needs)
-    (λ c. rw (right (c .before .before)) (sym (ap verdictNumber (c .enum-told .given .1))))
+read-number-spec = tie.close (tie.spec returns (λ c. search needs) (λ c. search needs) (λ c. search needs) (λ c. search needs) (λ c. search needs)
+    (λ c. search needs) (λ c. rw (right (c .before .before)) (sym (ap verdictNumber (c .enum-told .given .1))))
     (λ c. rw (right (c .before .before .before)) (sym (ap verdictNumber (c .before .v .given .1)))))

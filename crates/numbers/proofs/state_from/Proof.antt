@@ -1,7 +1,5 @@
 -- `numbers::state_from` meets its contract: an i64 holds the fifth number.
-use borrow.Author.Needs.{needs}
-use mathlib.Core.Path.{ap, _∙_}
-use Rattle.whole.proofs.Laws.{ok-back}
+use Rattle.whole.proofs.Laws.{needs, ap, _∙_, ok-back}
 use Rattle.numbers.specs.Numbers.{heldFrom, stateFrom}
 use Rattle.numbers.proofs.state_from.Statement.{statement}
 use Rattle.numbers.proofs.state_from.Tie as tie

@@ -1,9 +1,5 @@
 -- `plugin::hand_out` meets its contract: a slice of the right length is written whole, and any other is left.
-use borrow.Author.Needs.{needs}
-use mathlib.Core.Path.{ap, _∙_}
-use Prim.Native.Nat.{ℕ}
-use lib.ListN.{take}
-use borrow.Author.Tests.{eq-eqb, ne-eqb}
+use Rattle.whole.proofs.Laws.{needs, ap, _∙_, ℕ, take, eq-eqb, ne-eqb}
 use Rattle.plugin.specs.Calls.{wrote, intoExactly}
 use Rattle.plugin.proofs.hand_out.Statement.{statement}
 use Rattle.plugin.proofs.hand_out.Tie as tie

@@ -1,9 +1,6 @@
 -- `plugin::sled_admit` meets its contract: whole rows are judged, and any others refused by 40.
-use borrow.Author.Needs.{needs}
-use mathlib.Core.Path.{ap, _∙_}
-use denote.Ref.{now}
-use borrow.Author.Tests.{eq-eqb, ne-eqb}
-use Rattle.admission.specs.Admission.{refusalNumber}
+use Rattle.whole.proofs.Laws.{needs, ap, _∙_, now, eq-eqb, ne-eqb}
+use Rattle.admission.proofs.Laws.{refusalNumber}
 use Rattle.plugin.specs.Calls.{admitNumber}
 use Rattle.plugin.proofs.Rows.{lent-admission}
 use Rattle.plugin.proofs.sled_admit.Statement.{statement}

@@ -1,11 +1,6 @@
 -- `plugin::sled_read` meets its contract: the number decides, of a wrong length or of a refused file, and 0 passes: the job is written as numbers.
-use borrow.Author.Needs.{needs}
-use mathlib.Core.Path.{_≡_, sym, _∙_}
-use denote.Ref.{now}
-use Rattle.whole.specs.Refusal.{unlessRefused}
-use Rattle.whole.proofs.Laws.{passed, decided}
-use Rattle.numbers.specs.Job.{afterRead, jobNumbers}
-use Rattle.numbers.proofs.Lengths.{read-lengths}
+use Rattle.whole.proofs.Laws.{needs, _≡_, sym, _∙_, now, unlessRefused, passed, decided}
+use Rattle.numbers.proofs.Laws.{afterRead, jobNumbers, read-lengths}
 use Rattle.plugin.specs.Calls.{readCall}
 use Rattle.plugin.proofs.sled_read.Statement.{statement}
 use Rattle.plugin.proofs.sled_read.Tie as tie
@@ -20,7 +15,7 @@ returns : tie.Need-returns
 returns c = sym (judged (c .before) ∙ decided _ _ (c .if1 .taken))
 
 put-job-requires : tie.Need-put-job-requires
-put-job-requires c κs = let l = c .before .before .before .before in read-lengths _ _ _ _ (l .before .before .read .result .verdict) (sym (l .before .read-number .ensures) ∙ l .if1 .left)
+put-job-requires c κs = let l = c .before .before .before .before in read-lengths _ _ _ _ (l .before .before .read .result .verdict) (l .before .read-number .ensures) (l .if1 .left)
 
 returns-2 : tie.Need-returns-2
 returns-2 c =
@@ -29,13 +24,5 @@ returns-2 c =
     p .put-job .ensures ∙ sym (judged (l .before) ∙ passed _ _ (l .if1 .left))
 
 pub sled-read-spec : {M : Type 1} → statement M
-sled-read-spec = tie.close (tie.spec
-    (λ c κs. search needs)
-    (λ c κs. search needs)
-    returns
-    put-job-requires
-    (λ c. search needs)
-    (λ c. search needs)
-    (λ c. search needs)
-    (λ c. search needs)
-    returns-2)
+sled-read-spec = tie.close (tie.spec (λ c κs. search needs) (λ c κs. search needs) returns put-job-requires (λ c. search needs) (λ c. search needs)
+    (λ c. search needs) (λ c. search needs) returns-2)

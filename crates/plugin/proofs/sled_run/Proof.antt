@@ -1,12 +1,6 @@
 -- `plugin::sled_run` meets its contract: slices of the wrong length are refused, and what a run leaves is written back as numbers.
-use borrow.Author.Needs.{needs}
-use mathlib.Core.Path.{_≡_, sym, _∙_}
-use mathlib.Core.Bool.{true}
-use Prim.Native.Nat.{_%_}
-use lib.ListN.{length}
-use denote.Ref.{now}
-use borrow.Author.Tests.{not-true, not-false}
-use Rattle.numbers.proofs.Lengths.{four-lengths}
+use Rattle.whole.proofs.Laws.{needs, _≡_, sym, _∙_, true, _%_, length, now, not-true, not-false}
+use Rattle.numbers.proofs.Laws.{four-lengths}
 use Rattle.plugin.specs.Calls.{runLengths?, runCall}
 use Rattle.plugin.proofs.Rows.{lent-run}
 use Rattle.plugin.proofs.Ran.{ran-call}
@@ -42,13 +36,5 @@ returns-2 c =
     rw (right l) (ran-call (now (a .state)) ran (r .run-lent .ensures) (p .put-answer .ensures))
 
 pub sled-run-spec : {M : Type 1} → statement M
-sled-run-spec = tie.close (tie.spec
-    (λ c κs. search needs)
-    returns
-    (λ c κs. sized (c .before) .2)
-    (λ c κs. search needs)
-    put-answer-requires
-    (λ c. search needs)
-    (λ c. search needs)
-    (λ c. search needs)
-    returns-2)
+sled-run-spec = tie.close (tie.spec (λ c κs. search needs) returns (λ c κs. sized (c .before) .2) (λ c κs. search needs) put-answer-requires (λ c. search needs)
+    (λ c. search needs) (λ c. search needs) returns-2)
