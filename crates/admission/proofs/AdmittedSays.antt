@@ -5,18 +5,8 @@
 -- `admitted-only` takes a sentence and finds how the count, the search for the first row that is refused and the cover come out. The row that the search finds has its own
 -- answer (`row-says`), behind rows that are all digits; where it finds none, all rows are digits, and the cover theorem says what the cover test means. So one of the
 -- sentences always holds, and the answer that is given is its answer (`admitted-says`). Both together are `admitted-exactly`.
-use mathlib.Core.Path.{_≡_, refl, sym, _∙_, ap, subst}
-use mathlib.Core.Bool.{Bool, true, false, cond, false≢true}
-use mathlib.Core.Logic.{_⊎_, inl, inr, _↔_}
-use mathlib.Core.Option.{Option, none, some}
-use Prim.Native.Nat.{ℕ, _-_, _≤_, _<_}
-use native.Mathlib.Nat.{eq-zero-or-pos}
-use native.Mathlib.Omega.{arith}
-use borrow.Author.Tests.{le-leb, lt-leb}
-use Rattle.whole.specs.First.{first}
-use Rattle.whole.proofs.Laws.{first-found, first-none, found-first, none-first}
-use Rattle.digits.specs.Types.{System}
-use Rattle.digits.specs.System.{interval, transformation}
+use Rattle.whole.proofs.Laws.{_≡_, refl, sym, _∙_, ap, subst, Bool, true, false, cond, false≢true, _⊎_, inl, inr, _↔_, Option, none, some, ℕ, _-_, _≤_, _<_, eq-zero-or-pos, arith, le-leb, lt-leb, first, first-found, first-none, found-first, none-first}
+use Rattle.digits.proofs.Laws.{System, interval, transformation}
 use Rattle.admission.specs.Types.{Admission, Admitted, WrongCount, OutOfRange, NotAbove, NotBelow, NotLowest, Uncovered}
 use Rattle.admission.specs.Admission.{refused?, verdictOfRow, covered?, firstVerdict, rowsVerdict, admissionOf}
 use Rattle.admission.specs.Admitted.{DigitAt, Digits, RowCase, FirstRow, SystemCase}

@@ -3,21 +3,10 @@
 -- det(z, x) and det(z, y) have one sign. Cut at z, the circle of all points is a line, and on it the right ends have an order: p lies at q or behind it exactly if
 -- det(z, p)·det(z, q)·det(p, q) ≥ 0. Of two ends one always does, and the order passes on, so there is a digit a whose right end y_a lies behind all the others.
 -- Behind it goes on some digit b, which holds y_a and doesn't end there. But b's right end lies before y_a, so b's interval could hold y_a only by running through z.
-use mathlib.Core.Path.{_≡_, refl}
-use mathlib.Core.Bool.{Bool, true, false}
-use mathlib.Core.List.{List}
-use mathlib.Core.Logic.{_⊎_, inl, inr}
-use Prim.Native.Nat.{ℕ, _≤_, _<_}
-use lib.IntN.{ℤ, pos, negℤ, _+ℤ_, _*ℤ_}
-use lib.Signed.{_≤ℤ_, _<ℤ_}
-use Rattle.whole.proofs.Laws.{_⊕_, _⊗_, ⊝_, #, <-or-≥, _≦_, _≺_, _≈_, never, h, sq, _⊠_, _⊡_, linear, _&_, _⇒_, _from_, claim}
-use Rattle.whole.specs.First.{first, found?}
-use Rattle.plane.specs.Plane.{Pair, Point, det, left, right, Interval}
-use Rattle.inclusion.specs.Inclusion.{closed?}
-use Rattle.inclusion.proofs.Laws.{closed-says, not-closed-says}
-use Rattle.plane.proofs.Laws.{det-turned, three-terms, square-above}
-use Rattle.digits.specs.Types.{System}
-use Rattle.digits.specs.System.{interval}
+use Rattle.whole.proofs.Laws.{_≡_, refl, Bool, true, false, List, _⊎_, inl, inr, ℕ, _≤_, _<_, ℤ, pos, negℤ, _+ℤ_, _*ℤ_, _≤ℤ_, _<ℤ_, _⊕_, _⊗_, ⊝_, #, <-or-≥, _≦_, _≺_, _≈_, never, h, sq, _⊠_, _⊡_, linear, _&_, _⇒_, _from_, claim, first, found?}
+use Rattle.plane.proofs.Laws.{Pair, Point, det, left, right, Interval, det-turned, three-terms, square-above}
+use Rattle.inclusion.proofs.Laws.{closed?, closed-says, not-closed-says}
+use Rattle.digits.proofs.Laws.{System, interval}
 use Rattle.admission.specs.Admission.{covered?}
 use Rattle.admission.specs.Admitted.{Covers}
 use Rattle.admission.proofs.Greatest.{greatest}

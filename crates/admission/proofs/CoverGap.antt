@@ -2,18 +2,9 @@
 -- digit's interval, z = 20001·y − x, which lies behind y and so near it that no end of an interval lies between them.
 -- How the argument goes. "Every number lies in −100..100", so every determinant of two ends lies in −20000..20000. Hence det(p, z) = 20001·det(p, y) − det(p, x) has the
 -- sign of det(p, y) for every end p with det(p, y) ≠ 0. So an interval that does not hold y does not hold z either; and one that ends at y lies on y's other side.
-use mathlib.Core.Path.{_≡_, sym, subst}
-use mathlib.Core.Bool.{false}
-use mathlib.Core.List.{List}
-use Prim.Native.Nat.{ℕ}
-use lib.IntN.{ℤ, pos, negsuc, negℤ, _-ℤ_, _*ℤ_}
-use lib.Signed.{_≤ℤ_, _<ℤ_, leZ-yes}
-use Rattle.whole.specs.Range.{Near, Within}
-use Rattle.whole.proofs.Laws.{_⊕_, _⊖_, _⊗_, ⊝_, #, _≗_, law, _≦_, _≺_, _≈_, never, h, sq, _⊠_, _⊡_, linear, quadratic, _&_, _⇒_, _from_, claim, less, same, more, tri, up≤, near-neg, near-mul, near-sub}
-use Rattle.plane.specs.Plane.{Pair, Point, det, left, right, Interval, Closed}
-use Rattle.plane.proofs.Laws.{three-terms}
-use Rattle.digits.specs.Types.{System}
-use Rattle.digits.specs.System.{interval}
+use Rattle.whole.proofs.Laws.{_≡_, sym, subst, false, List, ℕ, ℤ, pos, negsuc, negℤ, _-ℤ_, _*ℤ_, _≤ℤ_, _<ℤ_, leZ-yes, Near, Within, _⊕_, _⊖_, _⊗_, ⊝_, #, _≗_, law, _≦_, _≺_, _≈_, never, h, sq, _⊠_, _⊡_, linear, quadratic, _&_, _⇒_, _from_, claim, less, same, more, tri, up≤, near-neg, near-mul, near-sub}
+use Rattle.plane.proofs.Laws.{Pair, Point, det, left, right, Interval, Closed, three-terms}
+use Rattle.digits.proofs.Laws.{System, interval}
 use Rattle.admission.specs.Admission.{Small, covered?}
 use Rattle.admission.specs.Admitted.{Covers}
 use Rattle.admission.proofs.CoverTests.{Stops, apart, together, Intervals, gap-found}

@@ -2,16 +2,9 @@
 -- the test `covered?` says exactly this. It looks at right ends only: behind each, another interval has to go on, which holds that end and does not end there too.
 -- (A system with no digits passes it, so there has to be one: refusal 3 comes before.)
 -- `covered` (CoverFull.antt) shows that then no point is left out; `uncovered` (CoverGap.antt) hands over a point that is left out if the test fails.
-use mathlib.Core.Path.{_≡_, subst}
-use mathlib.Core.Bool.{true, false}
-use mathlib.Core.Logic.{_↔_}
-use Prim.Native.Nat.{ℕ, _≤_}
-use native.Mathlib.Omega.{arith}
-use Rattle.whole.proofs.Laws.{true-by, false-by}
-use Rattle.plane.specs.Plane.{Pair, Point, right}
-use Rattle.plane.proofs.Laws.{det-self}
-use Rattle.digits.specs.Types.{System}
-use Rattle.digits.specs.System.{interval}
+use Rattle.whole.proofs.Laws.{_≡_, subst, true, false, _↔_, ℕ, _≤_, arith, true-by, false-by}
+use Rattle.plane.proofs.Laws.{Pair, Point, right, det-self}
+use Rattle.digits.proofs.Laws.{System, interval}
 use Rattle.admission.specs.Admission.{Small, covered?}
 use Rattle.admission.specs.Admitted.{Digits, Covers, Admissible}
 use Rattle.admission.proofs.CoverTests.{GoesOn, Intervals, NextDigit, gap-free}

@@ -1,21 +1,9 @@
 -- What the tests of the cover say. `covered?` is made of searches and signs; here it becomes two sentences on intervals:
 -- if it is true, behind every digit's right end some digit goes on (`gap-free`); if it is false, there is a digit behind whose right end none does (`gap-found`).
-use mathlib.Core.Path.{_≡_, refl, sym, _∙_}
-use mathlib.Core.Bool.{Bool, true, false, not, _&&_, true≢false, false≢true}
-use mathlib.Core.List.{List}
-use mathlib.Core.Option.{Option, none, some}
-use Prim.Native.Nat.{ℕ, _<_}
-use native.Mathlib.Omega.{arith}
-use borrow.Author.Tests.{not-true, not-false}
-use lib.IntN.{ℤ, pos, _*ℤ_}
-use lib.Signed.{_<ℤ_}
-use Rattle.whole.specs.First.{first, found?}
-use Rattle.whole.proofs.Laws.{first-found, first-none, both-true}
-use Rattle.plane.specs.Plane.{det, left, right, Interval, Closed}
-use Rattle.inclusion.specs.Inclusion.{closed?, same?}
-use Rattle.inclusion.proofs.Laws.{closed-says, not-closed-says, same-zero, zero-same}
-use Rattle.digits.specs.Types.{System}
-use Rattle.digits.specs.System.{interval}
+use Rattle.whole.proofs.Laws.{_≡_, refl, sym, _∙_, Bool, true, false, not, _&&_, true≢false, false≢true, List, Option, none, some, ℕ, _<_, arith, not-true, not-false, ℤ, pos, _*ℤ_, _<ℤ_, first, found?, first-found, first-none, both-true}
+use Rattle.plane.proofs.Laws.{det, left, right, Interval, Closed}
+use Rattle.inclusion.proofs.Laws.{closed?, same?, closed-says, not-closed-says, same-zero, zero-same}
+use Rattle.digits.proofs.Laws.{System, interval}
 use Rattle.admission.specs.Admission.{goesOnBehind?, someGoesOn?, covered?}
 
 -- ---- a search that finds, and one that doesn't

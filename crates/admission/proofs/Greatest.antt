@@ -1,10 +1,6 @@
 -- Among the numbers below n, for n from 1 on, there is a greatest one in any order that compares every two and passes on (`greatest`).
 -- The greatest of the numbers below k is compared with k itself: the one that lies beyond the other is the greatest of the numbers below k + 1.
-use mathlib.Core.Path.{subst}
-use mathlib.Core.Logic.{_⊎_, inl, inr}
-use Prim.Native.Nat.{ℕ, zero, suc, _≤_, _<_}
-use native.Mathlib.Omega.{arith}
-use native.Mathlib.Decide.{ℕ-discrete}
+use Rattle.whole.proofs.Laws.{subst, _⊎_, inl, inr, ℕ, zero, suc, _≤_, _<_, arith, ℕ-discrete}
 
 pub record Greatest (R : ℕ → ℕ → Type 0) (n : ℕ) : Type 0 where
   pub top : ℕ

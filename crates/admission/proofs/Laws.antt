@@ -12,3 +12,8 @@ pub use Rattle.admission.proofs.CoverSays.{CoverSays, cover-says, small
 pub use Rattle.admission.proofs.UnusedRows.{unused-rows}
 -- R, D and B, and single systems
 pub use Rattle.admission.proofs.BuiltIn.{admissionOfTable, AdmissibleTable, passed?, Each, passed-admissible, built-in-admitted, r-admitted, d-admitted, b-admitted, identities, Judged, judged}
+-- the definitions
+pub use Rattle.admission.specs.Admission.{SystemNumber, refusalNumber}
+unfoldable pub use Rattle.admission.specs.Admission.{admissionOf, rowVerdict, rowsVerdict}
+pub use Rattle.admission.specs.Admitted.{Admissible, Digits, SystemCase}
+pub use Rattle.admission.specs.Types.{Admitted}

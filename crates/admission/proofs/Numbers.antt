@@ -1,10 +1,5 @@
 -- Document 01's numbers of refusal: which there are, and that only "admitted" has 0.
-use mathlib.Core.Path.{_≡_, refl}
-use mathlib.Core.Bool.{false}
-use mathlib.Core.Logic.{_⊎_, inl, inr}
-use native.Mathlib.Omega.{arith}
-use borrow.Author.Tests.{not-false, eqb-true}
-use lib.Dec.{eqb}
+use Rattle.whole.proofs.Laws.{_≡_, refl, false, _⊎_, inl, inr, arith, not-false, eqb-true, eqb}
 use Rattle.admission.specs.Types.{Admission, Admitted, WrongCount, OutOfRange, NotAbove, NotBelow, NotLowest, Uncovered}
 use Rattle.admission.specs.Admission.{refusalNumber, refused?, SystemNumber}
 

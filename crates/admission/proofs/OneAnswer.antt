@@ -1,7 +1,7 @@
 -- "That no second answer fits is itself proved": whatever two answers keep the promise about a system's admission, they are the same. The promise is an equation
 -- with `admissionOf`, so that both are equal to one and the same value.
-use mathlib.Core.Path.{_≡_, sym, _∙_}
-use Rattle.digits.specs.Types.{System}
+use Rattle.whole.proofs.Laws.{_≡_, sym, _∙_}
+use Rattle.digits.proofs.Laws.{System}
 use Rattle.admission.specs.Types.{Admission}
 use Rattle.admission.specs.Admission.{admissionOf}
 use Rattle.admission.specs.Admitted.{SystemCase}

@@ -5,21 +5,9 @@
 -- the ground's laws on signed tests, lowest terms by the greatest common divisor, which every common divisor divides and which is one itself. `row-only` takes a row's
 -- sentence and finds how each test comes out; and since one of the sentences always holds, the answer that is given is its answer (`row-says`). Both together are
 -- `row-exactly`.
-use mathlib.Core.Path.{_≡_, refl, sym, subst}
-use mathlib.Core.Bool.{Bool, true, false, _&&_, false≢true}
-use mathlib.Core.List.{List}
-use mathlib.Core.Logic.{_⊎_, inl, inr, _↔_}
-use Prim.Native.Nat.{ℕ, _∣_}
+use Rattle.whole.proofs.Laws.{_≡_, refl, sym, subst, Bool, true, false, _&&_, false≢true, List, _⊎_, inl, inr, _↔_, ℕ, _∣_, eqb-true, eq-eqb, eqb, ℤ, pos, natAbs, at, gcd, gcd4, gcd-divides-left, gcd-divides-right, gcd-greatest, gcd4-divides, gcd4-greatest, <-or-≥, true-lt, false-lt, both-true, true-both, false-by}
+use Rattle.plane.proofs.Laws.{determinantOf, within?, lowest?, within-says, says-within}
 use native.Mathlib.Nat.{eq-one-of-dvd-one}
-use borrow.Author.Tests.{eqb-true, eq-eqb}
-use lib.Dec.{eqb}
-use lib.IntN.{ℤ, pos, natAbs}
-use Rattle.whole.specs.Range.{at}
-use Rattle.whole.specs.Divisor.{gcd, gcd4}
-use Rattle.whole.proofs.Laws.{gcd-divides-left, gcd-divides-right, gcd-greatest, gcd4-divides, gcd4-greatest, <-or-≥, true-lt, false-lt, both-true, true-both, false-by}
-use Rattle.plane.specs.Plane.{determinantOf}
-use Rattle.plane.specs.Tests.{within?, lowest?}
-use Rattle.plane.proofs.Laws.{within-says, says-within}
 use Rattle.admission.specs.Types.{Admission, Admitted, WrongCount, OutOfRange, NotAbove, NotBelow, NotLowest, Uncovered}
 use Rattle.admission.specs.Admission.{lowestEnds?, rowVerdict}
 use Rattle.admission.specs.Admitted.{InRange, Lowest, RowCase}

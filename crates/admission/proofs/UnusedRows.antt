@@ -2,20 +2,8 @@
 -- there are more than a system can have, these need not even be the same.
 --
 -- Each row is judged alike, the cover test meets the same intervals, and the two searches agree on every number that they pass (`first-same`).
-use mathlib.Core.Path.{_≡_, refl, sym, _∙_, ap, ap₂}
-use mathlib.Core.Bool.{Bool, not, cond, _&&_}
-use mathlib.Core.List.{List}
-use mathlib.Core.Logic.{inl, inr}
-use mathlib.Core.Option.{Option, none, some}
-use Prim.Native.Nat.{ℕ, _-_, _≤_, _<_}
-use native.Mathlib.Nat.{eq-zero-or-pos}
-use native.Mathlib.Omega.{arith}
-use lib.Dec.{leb}
-use lib.IntN.{ℤ}
-use Rattle.whole.specs.First.{first, found?}
-use Rattle.whole.proofs.Laws.{first-found, first-same}
-use Rattle.digits.specs.Types.{System}
-use Rattle.digits.specs.System.{interval, lent, SameDigits}
+use Rattle.whole.proofs.Laws.{_≡_, refl, sym, _∙_, ap, ap₂, Bool, not, cond, _&&_, List, inl, inr, Option, none, some, ℕ, _-_, _≤_, _<_, eq-zero-or-pos, arith, leb, ℤ, first, found?, first-found, first-same}
+use Rattle.digits.proofs.Laws.{System, interval, lent, SameDigits}
 use Rattle.admission.specs.Types.{Admission, Admitted, WrongCount, Uncovered}
 use Rattle.admission.specs.Admission.{rowVerdict, refused?, verdictOfRow, goesOnBehind?, someGoesOn?, covered?, firstVerdict, rowsVerdict, admissionOf}
 use Rattle.admission.proofs.AdmittedSays.{admitted-only}

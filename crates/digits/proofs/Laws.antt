@@ -5,3 +5,9 @@ pub use Rattle.digits.proofs.Places.{stored-there, stored-rows, stored-
 pub use Rattle.digits.proofs.Places.{same-numbers, filled-same}
 -- from the numbers of each digit to all numbers
 pub use Rattle.digits.proofs.Places.{numbers-near}
+-- the definitions
+pub use Rattle.digits.specs.BuiltIn.{filled, joined, minus, row, rowsB, rowsD, rowsR}
+unfoldable pub use Rattle.digits.specs.BuiltIn.{systemOf}
+pub use Rattle.digits.specs.System.{DigitThere, SameDigits, Stored, interval, lent, transformation}
+unfoldable pub use Rattle.digits.specs.System.{fourAt, intervalAt, transformationAt}
+pub use Rattle.digits.specs.Types.{System}

@@ -1,13 +1,5 @@
 -- What follows from the layout, for those who don't know it: row a of a system stands at the places 8·a to 8·a + 7, its transformation in front and its interval behind.
-use mathlib.Core.Path.{_≡_, refl, sym, _∙_, ap, subst}
-use mathlib.Core.List.{List}
-use mathlib.Core.Logic.{inl, inr}
-use Prim.Native.Nat.{ℕ, zero, suc, _+_, _*_, _-_, _/_, _%_, _≤_, _<_}
-use native.Mathlib.Nat.{add-zero, eq-zero-or-pos}
-use native.Mathlib.Omega.{arith}
-use lib.IntN.{ℤ, pos}
-use lib.ListN.{length, replicate, List·getD-append}
-use Rattle.whole.specs.Range.{at, Near, Within}
+use Rattle.whole.proofs.Laws.{_≡_, refl, sym, _∙_, ap, subst, List, inl, inr, ℕ, zero, suc, _+_, _*_, _-_, _/_, _%_, _≤_, _<_, add-zero, eq-zero-or-pos, arith, ℤ, pos, length, replicate, List·getD-append, at, Near, Within}
 use Rattle.digits.specs.Types.{System}
 use Rattle.digits.specs.System.{fourAt, transformationAt, intervalAt, transformation, interval, lent, DigitThere, Stored, SameDigits}
 use Rattle.digits.specs.BuiltIn.{filled}

@@ -6,15 +6,8 @@
 -- The argument. The test is read in the four numbers of InclusionSigns.antt (`Seen`). There its answer decides (`answer`) between "every mixture α·x + β·y of
 -- I's ends with α·β > 0 is inside J" and "one such mixture is outside". And these mixtures are the points inside I: each point z is one, up to a factor, by
 -- Cramer's rule det(x, y)·z = det(z, y)·x + det(x, z)·y (`mixture`); and each of them is inside I (`mix-inside`).
-use mathlib.Core.Path.{_≡_, sym, _∙_, ap, ap₂, subst}
-use mathlib.Core.Bool.{Bool, true, false, _&&_}
-use mathlib.Core.List.{List}
-use lib.Dec.{T}
-use lib.IntN.{ℤ, pos, negℤ, _+ℤ_, _*ℤ_}
-use lib.Signed.{_≤ℤ_, _<ℤ_, clashℤ}
-use Rattle.whole.proofs.Laws.{_⊕_, _⊖_, _⊗_, ⊝_, #, _≗_, law, _≺_, _≈_, never, h, _⊞_, _⊠_, _⊡_, _⇒_, _by_, claim, ≤-of-<, both-true, true-by}
-use Rattle.plane.proofs.Laws.{Det, det-turned, three-terms}
-use Rattle.plane.specs.Plane.{Pair, Point, det, left, right, Interval, Inside, Closed}
+use Rattle.whole.proofs.Laws.{_≡_, sym, _∙_, ap, ap₂, subst, Bool, true, false, _&&_, List, T, ℤ, pos, negℤ, _+ℤ_, _*ℤ_, _≤ℤ_, _<ℤ_, clashℤ, _⊕_, _⊖_, _⊗_, ⊝_, #, _≗_, law, _≺_, _≈_, never, h, _⊞_, _⊠_, _⊡_, _⇒_, _by_, claim, ≤-of-<, both-true, true-by}
+use Rattle.plane.proofs.Laws.{Det, det-turned, three-terms, Pair, Point, det, left, right, Interval, Inside, Closed}
 use Rattle.inclusion.specs.Inclusion.{Included, closed?, same?, included?}
 use Rattle.inclusion.proofs.InclusionSigns.{EndsIn, Kept, keep-equal, keep-u, keep-v, Mixture, kept-closed, kept-inside, Off, off-left, off-right, off-round}
 use Rattle.inclusion.proofs.InclusionTests.{closed-says, not-closed-says, same-zero, zero-same, Judged, left-out, right-out, equal, u-out, v-out, round, judge}

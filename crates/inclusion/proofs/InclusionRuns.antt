@@ -1,11 +1,7 @@
 -- Document 01's runs P1, P2 and P3, of the test (by computing it) and of the sentence "every point inside I is inside J" (by the inclusion theorem).
 -- "Judging inclusion by both ends alone" is wrong for P2 and P3: both their ends lie in closed (0, 3).
-use mathlib.Core.Path.{_≡_, refl}
-use mathlib.Core.Bool.{true, false}
-use mathlib.Core.List.{List, [], _∷_}
-use lib.IntN.{ℤ, pos, negℤ}
-use lib.Signed.{ltZ-yes}
-use Rattle.plane.specs.Plane.{left, right}
+use Rattle.whole.proofs.Laws.{_≡_, refl, true, false, List, [], _∷_, ℤ, pos, negℤ, ltZ-yes}
+use Rattle.plane.proofs.Laws.{left, right}
 use Rattle.inclusion.specs.Inclusion.{Included, closed?, same?, included?}
 use Rattle.inclusion.proofs.Inclusion.{included-says, not-included-says}
 

@@ -6,10 +6,7 @@
 --  * If the test holds then a·b ≥ 0, c·d ≥ 0 and a·d + c·b > 0 (`Kept`). So the sum is not below 0, and above 0 if α·β is (`kept-closed`, `kept-inside`).
 --  * If the test fails then some α, β with α·β > 0 make the sum negative (`Off`). If a·b < 0, take α = n, β = 1 with n large (`off-left`; the same from the
 --    other end, `off-right`). If both ends of I are in closed J, take α = c + d, β = −(a + b): this is the point u − v, opposite to J (`off-round`).
-use mathlib.Core.Path.{_≡_}
-use lib.IntN.{ℤ, pos, negℤ, _+ℤ_, _*ℤ_, _-ℤ_, *ℤ-comm}
-use lib.Signed.{_≤ℤ_, _<ℤ_}
-use Rattle.whole.proofs.Laws.{E, _⊕_, _⊖_, _⊗_, ⊝_, #, _≦_, _≺_, _≈_, never, Cert, h, sq, dec, _⊞_, _⊠_, _⊡_, linear, _&_, Seq, _⇒_, _by_, _from_, claim, less, same, more, tri}
+use Rattle.whole.proofs.Laws.{_≡_, ℤ, pos, negℤ, _+ℤ_, _*ℤ_, _-ℤ_, *ℤ-comm, _≤ℤ_, _<ℤ_, E, _⊕_, _⊖_, _⊗_, ⊝_, #, _≦_, _≺_, _≈_, never, Cert, h, sq, dec, _⊞_, _⊠_, _⊡_, linear, _&_, Seq, _⇒_, _by_, _from_, claim, less, same, more, tri}
 
 -- both ends of I are in closed J
 pub record EndsIn (a b c d : ℤ) : Type 0 where

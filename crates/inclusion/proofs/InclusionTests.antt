@@ -1,14 +1,7 @@
 -- What the tests inside `included?` say: `closed?` is document 01's "in the closed interval exactly if that product is ≥ 0", and `same?` is its "multiples are the same
 -- point". The last part takes `included?` apart into the six ways in which it comes out (`judge`).
-use mathlib.Core.Path.{_≡_, refl, sym, ap, subst}
-use mathlib.Core.Bool.{Bool, true, false, not, _&&_, _||_}
-use mathlib.Core.List.{List}
-use lib.Dec.{T, eqb, eqb→eq}
-use lib.IntN.{ℤ, pos, natAbs, _*ℤ_}
-use lib.Signed.{_<ℤ_, clashℤ}
-use Rattle.whole.proofs.Laws.{natAbs-zero, le-true, le-false, true-le}
-use Rattle.plane.proofs.Laws.{same-det, det-same}
-use Rattle.plane.specs.Plane.{Pair, Point, SamePoint, det, left, right, Closed}
+use Rattle.whole.proofs.Laws.{_≡_, refl, sym, ap, subst, Bool, true, false, not, _&&_, _||_, List, T, eqb, eqb→eq, ℤ, pos, natAbs, _*ℤ_, _<ℤ_, clashℤ, natAbs-zero, le-true, le-false, true-le}
+use Rattle.plane.proofs.Laws.{same-det, det-same, Pair, Point, SamePoint, det, left, right, Closed}
 use Rattle.inclusion.specs.Inclusion.{closed?, same?}
 
 -- ---- "A point z is .. in the closed interval exactly if that product is ≥ 0."

@@ -7,3 +7,5 @@ pub use Rattle.inclusion.proofs.Inclusion.{included-says, says-included
 pub use Rattle.inclusion.proofs.InclusionRuns.{P1, P1-says, P2, P2-ends, P2-says, P3, P3-ends, P3-says}
 -- the test by signs of determinants
 pub use Rattle.inclusion.proofs.Signs.{closed-from, closed-to, verdict, included-sides}
+-- the definitions
+unfoldable pub use Rattle.inclusion.specs.Inclusion.{closed?, included?, same?, sidesOf}

@@ -1,15 +1,8 @@
 -- The sign of a product by the signs of its factors, for `opposite`. And document 01's test of inclusion, for `included`: "both ends of I are in closed J, and either I and J
 -- have one and the same left end and one and the same right end, as points, or some end of J is not in closed I". Each part of it is one of the four determinants
 -- of an end of I = (x, y) and an end of J = (u, v), or a product of two: det turns its sign where its points change places, so that "0 or above" becomes "0 or below".
-use mathlib.Core.Path.{_≡_, refl, sym, _∙_, ap}
-use mathlib.Core.Bool.{Bool, true, false, not, _&&_, _||_}
-use mathlib.Core.List.{List}
-use lib.Dec.{T, eqb}
-use lib.IntN.{ℤ, pos, natAbs, _+ℤ_, _*ℤ_, zero-*ℤ}
-use lib.Signed.{leZ, _≤ℤ_, _<ℤ_, leZ-yes}
-use Rattle.whole.specs.Range.{at}
-use Rattle.whole.proofs.Laws.{_⊕_, _⊖_, _⊗_, ≤-antisym, #, _≗_, law, _≦_, _≺_, _≈_, linear, quadratic, _⇒_, _from_, claim}
-use Rattle.plane.specs.Plane.{Pair, det, left, right}
+use Rattle.whole.proofs.Laws.{_≡_, refl, sym, _∙_, ap, Bool, true, false, not, _&&_, _||_, List, T, eqb, ℤ, pos, natAbs, _+ℤ_, _*ℤ_, zero-*ℤ, leZ, _≤ℤ_, _<ℤ_, leZ-yes, at, _⊕_, _⊖_, _⊗_, ≤-antisym, #, _≗_, law, _≦_, _≺_, _≈_, linear, quadratic, _⇒_, _from_, claim}
+use Rattle.plane.proofs.Laws.{Pair, det, left, right}
 use Rattle.inclusion.specs.Inclusion.{closed?, same?, included?, sidesOf}
 
 -- ---- two tests agree where each order follows from the other

@@ -5,37 +5,15 @@
 --   giving b:  k·(P·X) = d·(C·Q) goes on by `gave-scale`. For the digits before b nothing changes, since G_b(X'(t)) is X(t) again, as a point. For b itself: t lies in
 --              closed W_held, so X(t) lies in closed X·W_held, and so in closed U_b, which includes it. This is why a digit that was given out never has to be recalled.
 --   absorbing: the equation goes on by `absorbed-scale`; and what is claimed at t is what was claimed before at F_h(t), since X'(t) is X(F_h(t)), as a point.
-use mathlib.Core.Path.{_≡_, refl, sym, _∙_, ap, subst}
-use mathlib.Core.Bool.{true}
-use mathlib.Core.List.{List, [], _∷_, _++_, append-nil}
-use mathlib.Core.Option.{Option, none, some}
-use Prim.Native.Nat.{ℕ, _*_, _<_}
-use native.Mathlib.Nat as N
-use native.Mathlib.Omega.{arith}
-use borrow.Author.Tests.{ltb-true}
-use lib.Dec.{ltb}
-use lib.IntN.{ℤ, pos}
-use lib.Signed.{_<ℤ_}
-use Rattle.whole.specs.Divisor.{gcd4}
-use Rattle.whole.proofs.Laws.{ps-mul, up<}
-use Rattle.plane.specs.Plane.{Pair, apply, imageOf, multiplyOf, cancelOf, Closed}
-use Rattle.plane.specs.Scale.{scaleOf, DetAbove}
-use Rattle.plane.specs.Tests.{within?}
-use Rattle.plane.proofs.Laws.{multiply-identity-left, multiply-identity-right, det-above-multiply, det-above-pseudoinverse, cancel-det-above, divisor-above, interval-moves, closed-moves, closed-same}
+use Rattle.whole.proofs.Laws.{_≡_, refl, sym, _∙_, ap, subst, List, [], _∷_, _++_, append-nil, Option, none, some, ℕ, _*_, _<_, arith, ltb-true, ltb, ℤ, pos, _<ℤ_, gcd4, ps-mul, up<}
+use Rattle.plane.proofs.Laws.{Pair, apply, multiplyOf, cancelOf, Closed, scaleOf, DetAbove, within?, multiply-identity-left, multiply-identity-right, det-above-multiply, det-above-pseudoinverse, cancel-det-above, divisor-above, interval-moves, closed-moves, closed-same}
 use Rattle.inclusion.proofs.Laws.{included-says, says-included, closed-included}
-use Rattle.digits.specs.System.{transformation, interval}
-use Rattle.admission.specs.Admitted.{Digits}
-use Rattle.runs.specs.Supply.{Deed, nothing}
-use Rattle.runs.specs.Machine.{goes, Going}
-use Rattle.runs.specs.Plan.{Plan, Each, took-x, gave}
-use Rattle.runs.proofs.Laws.{follow-each, each-test}
-use Rattle.steps.specs.Types.{Held, Nothing, Digit, State, Stop, NotADigit, RangeLeft}
-use Rattle.steps.specs.State.{HeldDigit, loaded, given, absorbed}
-use Rattle.steps.specs.Step.{Setting, chosen, givenMatrix, absorbedMatrix, heldPlan, planBy, plan}
-use Rattle.steps.proofs.Laws.{chosen-below, chosen-fits}
-use Rattle.unary.specs.Types.{Opens, Start}
-use Rattle.unary.specs.Opening.{openOf, startOf}
-use Rattle.unary.proofs.Laws.{opens, hands-out}
+use Rattle.digits.proofs.Laws.{transformation, interval}
+use Rattle.admission.proofs.Laws.{Digits}
+use Rattle.runs.proofs.Laws.{Deed, nothing, Going, Plan, Each, took-x, gave, follow-each, each-test}
+use Rattle.steps.proofs.Laws.{Held, Nothing, Digit, State, Stop, NotADigit, RangeLeft, HeldDigit, loaded, given, absorbed, Setting, chosen, givenMatrix, absorbedMatrix, planBy, plan, chosen-below, chosen-fits}
+use Rattle.unary.proofs.Laws.{Opens, Start, openOf, opens, hands-out}
+use native.Mathlib.Nat as N
 use Rattle.meaning.specs.Names.{productOf, determinantsOf, EachInItsInterval, HeldInItsInterval, heldDigits}
 use Rattle.meaning.specs.Moments.{Fits, Chooses, Line, loading, holding, Moment, opened, stepped, divisorBy, divisorOf, divisorsOf}
 use Rattle.meaning.proofs.Products.{product-append, determinants-append, each-append, each-same}

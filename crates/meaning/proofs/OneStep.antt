@@ -3,15 +3,8 @@
 --   b is given out:   X becomes X' with g·X' = pseudoinverse(G_b)·X, and P becomes P·G_b. So g·(P·G_b·X') = P·G_b·pseudoinverse(G_b)·X = det G_b·(P·X): k grows by g, and
 --                     d by det G_b. And G_b(X'(t)) is X(t) again, as a point.
 --   h is absorbed:    X becomes X' with g·X' = X·F_h, and Q becomes Q·F_h. So g·(P·X') = (P·X)·F_h: k grows by g. And X'(t) is X(F_h(t)), as a point.
-use mathlib.Core.Path.{_≡_, sym, _∙_, ap, subst}
-use mathlib.Core.List.{List}
-use Prim.Native.Nat.{ℕ, _*_}
-use lib.IntN.{ℤ, pos, _*ℤ_}
-use Rattle.whole.specs.Divisor.{gcd4}
-use Rattle.whole.proofs.Laws.{_⊗_, _≗_, law, up<}
-use Rattle.plane.specs.Plane.{Pair, SamePoint, apply, determinantOf, pseudoinverseOf, multiplyOf, cancelOf}
-use Rattle.plane.specs.Scale.{scaleOf, DetAbove}
-use Rattle.plane.proofs.Laws.{above-not-0, multiply-assoc, multiply-scale-left, multiply-scale-right, scale-scale, multiply-pseudoinverse, times-entries, cancel-times, apply-multiply, det-above-multiply, det-above-pseudoinverse, same-sym, same-trans, same-moves, same-redone, same-scaled, cancel-says}
+use Rattle.whole.proofs.Laws.{_≡_, sym, _∙_, ap, subst, List, ℕ, _*_, ℤ, pos, _*ℤ_, gcd4, _⊗_, _≗_, law, up<}
+use Rattle.plane.proofs.Laws.{Pair, SamePoint, apply, determinantOf, pseudoinverseOf, multiplyOf, cancelOf, scaleOf, DetAbove, above-not-0, multiply-assoc, multiply-scale-left, multiply-scale-right, scale-scale, multiply-pseudoinverse, times-entries, cancel-times, apply-multiply, det-above-multiply, det-above-pseudoinverse, same-sym, same-trans, same-moves, same-redone, same-scaled, cancel-says}
 use Rattle.meaning.specs.Names.{UpToScale}
 
 -- ---- the product

@@ -4,21 +4,11 @@
 -- digits 0 0 1 with the rest −1/1, of which the last digit makes 0, outside its interval (1, infinity); and a held digit refuses a rest outside its interval.
 -- Last, document 01's own job (R to R, matrix 2 1 1 2, word 0 0 1; output 0 1 1, state 2 1 1 2): with the rest 1/1 the input names 2/5, of which the matrix makes
 -- 9/12, and the output names 9/12, each number on the way in its digit's interval.
-use mathlib.Core.Path.{_≡_, refl}
-use mathlib.Core.List.{List, [], _∷_}
-use Prim.Native.Nat.{ℕ, zero, suc}
-use native.Mathlib.Omega.{arith}
-use lib.Dec.{T}
-use lib.IntN.{ℤ, pos}
-use Rattle.whole.proofs.Laws.{up<}
-use Rattle.plane.specs.Plane.{Pair, SamePoint, apply, Closed}
-use Rattle.plane.specs.Scale.{scalePair}
-use Rattle.inclusion.specs.Inclusion.{closed?}
-use Rattle.plane.proofs.Laws.{above-not-0, same-refl, same-sym, same-trans, same-scale, closed-same}
-use Rattle.digits.specs.Types.{System}
-use Rattle.digits.specs.System.{fourAt, transformationAt, intervalAt}
-use Rattle.digits.specs.BuiltIn.{minus, rowsR, rowsD, systemOf}
-use Rattle.steps.specs.Types.{Digit}
+use Rattle.whole.proofs.Laws.{_≡_, refl, List, [], _∷_, ℕ, zero, suc, arith, T, ℤ, pos, up<}
+use Rattle.plane.proofs.Laws.{Pair, SamePoint, apply, Closed, scalePair, above-not-0, same-refl, same-sym, same-trans, same-scale, closed-same}
+use Rattle.inclusion.proofs.Laws.{closed?}
+use Rattle.digits.proofs.Laws.{System, fourAt, transformationAt, intervalAt, minus, rowsR, rowsD, systemOf}
+use Rattle.steps.proofs.Laws.{Digit}
 use Rattle.meaning.specs.Names.{namedFrom, EachInItsInterval, HeldInItsInterval}
 use Rattle.meaning.proofs.Products.{named-same}
 

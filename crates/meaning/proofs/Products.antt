@@ -4,16 +4,9 @@
 -- The argument: each law is an induction over the digits in front; the equation for the rest is put behind the first digit's transformation. Then two facts that
 -- connect the pieces: the product of the transformations, applied to t, is the number named; and the numbers do not see which multiple stands for t ("Multiples are
 -- the same point").
-use mathlib.Core.Path.{_≡_, refl, sym, _∙_, ap, subst}
-use mathlib.Core.List.{List, [], _∷_, _++_}
-use mathlib.Core.Logic.{_↔_}
-use Prim.Native.Nat.{ℕ}
-use lib.IntN.{ℤ, _*ℤ_}
-use Rattle.whole.proofs.Laws.{_⊗_, #, _≗_, law}
-use Rattle.plane.specs.Plane.{Pair, SamePoint, apply, determinantOf, multiplyOf, Closed}
-use Rattle.plane.proofs.Laws.{apply-identity, apply-multiply, multiply-assoc, multiply-identity-left, multiply-identity-right, same-moves, closed-same}
-use Rattle.digits.specs.Types.{System}
-use Rattle.digits.specs.System.{transformation, interval}
+use Rattle.whole.proofs.Laws.{_≡_, refl, sym, _∙_, ap, subst, List, [], _∷_, _++_, _↔_, ℕ, ℤ, _*ℤ_, _⊗_, #, _≗_, law}
+use Rattle.plane.proofs.Laws.{Pair, SamePoint, apply, determinantOf, multiplyOf, Closed, apply-identity, apply-multiply, multiply-assoc, multiply-identity-left, multiply-identity-right, same-moves, closed-same}
+use Rattle.digits.proofs.Laws.{System, transformation, interval}
 use Rattle.meaning.specs.Names.{namedFrom, productOf, determinantsOf, EachInItsInterval}
 
 module _ (y : System) where

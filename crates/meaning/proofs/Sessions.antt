@@ -5,33 +5,17 @@
 -- without the held one; there is one such list, and no other.
 -- Last, the bridge to the code: `called-by-contract` makes a session's next call of any answer and output that equal those of `runOf`, which is what `run`'s contract
 -- says of them.
-use mathlib.Core.Path.{_≡_, refl, sym, _∙_, ap, subst}
-use mathlib.Core.List.{List, [], _++_, append-nil, append-assoc, append-cancel-right}
-use Prim.Native.Nat.{ℕ, zero, suc, _*_, _<_}
+use Rattle.whole.proofs.Laws.{_≡_, refl, sym, _∙_, ap, subst, List, [], _++_, append-nil, append-assoc, ℕ, zero, suc, _*_, _<_, length, take, drop, take-append-seam, ℤ, pos, +ℤ-idl, _<ℤ_, gcd4, gap, ≤-of-<, down<}
+use Rattle.plane.proofs.Laws.{Pair, apply, multiplyOf, SamePoint, scaleOf, apply-multiply, point-moves, divisor-above}
+use Rattle.digits.proofs.Laws.{System}
+use Rattle.admission.proofs.Laws.{Admissible, Digits}
+use Rattle.runs.proofs.Laws.{Supply, spend, Outcome, goes, halts, mostSteps, Course, after, runBy, run, front-written, either}
+use Rattle.steps.proofs.Laws.{State, Stop, Refused, Setting, setting, plain, oneWord}
+use Rattle.unary.proofs.Laws.{Answer, refusalOf, courseOf, runOf, course-in-range}
+use mathlib.Core.List.{append-cancel-right}
 use native.Mathlib.Nat as N
-use lib.ListN.{length, take, drop}
-use lib.Seq.{take-append-seam}
-use lib.IntN.{ℤ, pos, +ℤ-idl}
-use lib.Signed.{_<ℤ_}
-use Rattle.whole.specs.Divisor.{gcd4}
-use Rattle.whole.proofs.Laws.{gap, ≤-of-<, down<}
-use Rattle.plane.specs.Plane.{Pair, Point, apply, multiplyOf, SamePoint}
-use Rattle.plane.specs.Scale.{scaleOf}
-use Rattle.plane.proofs.Laws.{apply-multiply, point-moves, divisor-above}
-use Rattle.digits.specs.Types.{System}
-use Rattle.admission.specs.Admitted.{Admissible, Digits}
-use Rattle.runs.specs.Supply.{Supply, Deed, spend}
-use Rattle.runs.specs.Machine.{Outcome, goes, halts, left}
-use Rattle.runs.specs.Run.{Course, after, runBy, run}
-use Rattle.runs.proofs.Laws.{front-written, either}
-use Rattle.steps.specs.Types.{State, Stop, Refused}
-use Rattle.steps.specs.Step.{Setting, setting, plain, oneWord}
-use Rattle.unary.specs.Types.{Answer}
-use Rattle.unary.specs.Judging.{refusalOf}
-use Rattle.unary.specs.Run.{courseOf, runOf}
-use Rattle.unary.proofs.Laws.{course-in-range}
-use Rattle.meaning.specs.Names.{namedFrom, productOf, determinantsOf, EachInItsInterval, heldDigits, UpToScale}
-use Rattle.meaning.specs.Session.{Session, Numbers, ProductHolds, NumbersHold, During}
+use Rattle.meaning.specs.Names.{namedFrom, productOf, determinantsOf, EachInItsInterval, heldDigits}
+use Rattle.meaning.specs.Session.{Session, ProductHolds, NumbersHold, During}
 use Rattle.meaning.specs.Moments.{Moment, stepped, divisorsOf, ScaleNamed}
 use Rattle.meaning.proofs.Products.{product-names}
 use Rattle.meaning.proofs.OneStep.{job-scale, scale-same}
@@ -116,7 +100,7 @@ module _ {a b : System} {m : List ℤ} where
       let y = setting a b in
       let r = oneWord input (length output) in
       either (plain y) Refused (refusalOf y) s r (During (Moment y m) taken given)
-      (λ e. call-by (session-admitted session) (session-moment session) (suc (left (plain y) s r)) r)
+      (λ e. call-by (session-admitted session) (session-moment session) (suc (mostSteps (plain y) s r)) r)
       (λ n e. simp append-nil (session-moment session))
 
   means : {taken given : List ℕ} {s : State} → Admissible a × Admissible b → (moment : Moment (setting a b) m taken given s) → Meant (setting a b) m (divisorsOf moment) taken given s

@@ -3,33 +3,14 @@
 -- The sessions are computed by the checker from the definitions of opening and `run`. Then what `session-product` and `session-numbers` say of them, in plain numbers:
 -- in `whole-word` at the rest 1/1, and in `half-way` at the rest 2/1, which the held digit 1 makes of 1/1. Both times the input names 2/5, of which the matrix makes
 -- 9/12, and the output names 9/12 in front of what is still to come. Last, the held digit is not absorbed: with it counted in, the product is another.
-use mathlib.Core.Path.{_≡_, refl, ap}
-use mathlib.Core.List.{List, [], _∷_}
-use Prim.Native.Nat.{ℕ, _*_}
-use native.Mathlib.Omega.{arith}
-use lib.ListN.{replicate}
-use lib.IntN.{ℤ, pos, natAbs}
-use Rattle.whole.specs.Range.{at}
-use Rattle.whole.specs.Divisor.{gcdBy, gcd, gcd4}
-use Rattle.whole.specs.First.{first}
-use Rattle.whole.specs.Refusal.{unlessRefused}
-use Rattle.whole.proofs.Laws.{up<}
-use Rattle.plane.specs.Plane.{Point, SamePoint, determinantOf, pseudoinverseOf, apply, multiplyOf, Closed, imageOf, cancelOf}
-use Rattle.plane.specs.Scale.{scaleOf}
-use Rattle.plane.specs.Tests.{within?}
-use Rattle.plane.proofs.Laws.{above-not-0}
-use Rattle.inclusion.specs.Inclusion.{closed?, same?, included?}
-use Rattle.digits.specs.System.{fourAt, transformationAt, intervalAt}
-use Rattle.digits.specs.BuiltIn.{rowsR, systemOf}
-use Rattle.admission.specs.Admission.{rowVerdict, rowsVerdict, admissionOf}
-use Rattle.admission.proofs.Laws.{r-admitted}
-use Rattle.runs.specs.Plan.{follow}
-use Rattle.runs.specs.Run.{runBy, run, judgedRun}
-use Rattle.steps.specs.Types.{Nothing, Digit, State}
-use Rattle.steps.specs.Step.{fittingOf}
-use Rattle.unary.specs.Opening.{openOf}
-use Rattle.unary.specs.Judging.{state?, refusalOf}
-use Rattle.unary.specs.Run.{courseOf}
+use Rattle.whole.proofs.Laws.{_≡_, refl, ap, List, [], _∷_, ℕ, _*_, arith, replicate, ℤ, pos, natAbs, at, gcdBy, gcd, gcd4, first, unlessRefused, up<}
+use Rattle.plane.proofs.Laws.{Point, SamePoint, determinantOf, pseudoinverseOf, apply, multiplyOf, Closed, imageOf, cancelOf, scaleOf, within?, above-not-0}
+use Rattle.inclusion.proofs.Laws.{closed?, same?, included?}
+use Rattle.digits.proofs.Laws.{fourAt, transformationAt, intervalAt, rowsR, systemOf}
+use Rattle.admission.proofs.Laws.{rowVerdict, rowsVerdict, admissionOf, r-admitted}
+use Rattle.runs.proofs.Laws.{follow, runBy, run, judgedRun}
+use Rattle.steps.proofs.Laws.{Nothing, Digit, State, fittingOf}
+use Rattle.unary.proofs.Laws.{openOf, state?, refusalOf, courseOf}
 use Rattle.meaning.specs.Names.{namedFrom, productOf, EachInItsInterval, UpToScale}
 use Rattle.meaning.specs.Session.{Session}
 use Rattle.meaning.proofs.Sessions.{session-product, session-numbers}

@@ -3,17 +3,8 @@
 -- points to the same points and intervals to the same intervals; its determinant and each of its entries keep their sign.
 -- The argument: a matrix of determinant above 0 has an entry that is not 0, so the divisor is above 0 and goes out of every entry (`Divisor` of the crate `whole`). What
 -- follows is said of any n and m with k·n = m entry by entry, k above 0 (`Times4 k n m`), of which a matrix and its cancelled form are one case.
-use mathlib.Core.Path.{_≡_, refl, sym, _∙_, ap, subst}
-use mathlib.Core.List.{List}
-use Prim.Native.Nat.{ℕ, zero, suc, _*_, _<_}
+use Rattle.whole.proofs.Laws.{_≡_, refl, sym, _∙_, ap, subst, List, ℕ, zero, suc, _*_, _<_, arith, length, ℤ, pos, _*ℤ_, _<ℤ_, at, gcd4, _⊖_, _⊗_, #, _≺_, _≈_, never, h, _⊡_, linear, _&_, _⇒_, _from_, claim, cancel-pos, up<, Times, Times4, gcd4-divides, gcd4-zero, divided-times, reduced, reduced-only}
 use native.Mathlib.Nat as N
-use native.Mathlib.Omega.{arith}
-use lib.ListN.{length}
-use lib.IntN.{ℤ, pos, _*ℤ_}
-use lib.Signed.{_<ℤ_}
-use Rattle.whole.specs.Range.{at}
-use Rattle.whole.specs.Divisor.{gcd4}
-use Rattle.whole.proofs.Laws.{_⊖_, _⊗_, #, _≺_, _≈_, never, h, _⊡_, linear, _&_, _⇒_, _from_, claim, cancel-pos, up<, Times, Times4, gcd4-divides, gcd4-zero, divided-times, reduced, reduced-only}
 use Rattle.plane.specs.Plane.{Pair, SamePoint, apply, determinantOf, imageOf, cancelOf}
 use Rattle.plane.specs.Scale.{entries, scaleOf, DetAbove, SameSign, SameSigns, SameEnds}
 use Rattle.plane.proofs.SameSign.{grown, sign-back, square-above, above-not-0}

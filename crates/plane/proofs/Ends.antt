@@ -1,10 +1,7 @@
 -- An interval may be written with other multiples of its ends: if each end is multiplied, by two numbers whose product is above 0, then the same points are inside, the
 -- same are in the closed interval, and it still is an interval. So one end may be multiplied by a number above 0, and both may change their sign.
 -- The argument: a factor k of the left end and l of the right end comes out of the product that decides as k·l, which does not change its sign.
-use mathlib.Core.Path.{_≡_, sym, _∙_}
-use mathlib.Core.List.{List}
-use lib.IntN.{ℤ, pos, _*ℤ_}
-use Rattle.whole.proofs.Laws.{_⊗_, _≗_, law}
+use Rattle.whole.proofs.Laws.{_≡_, sym, _∙_, List, ℤ, pos, _*ℤ_, _⊗_, _≗_, law}
 use Rattle.plane.specs.Plane.{Pair, det, left, right, imageOf, Interval, Inside, Closed}
 use Rattle.plane.specs.Scale.{scalePair, scaleOf, SameSign, SameEnds}
 use Rattle.plane.proofs.SameSign.{grown, sign-back, square-above}

@@ -1,13 +1,7 @@
 -- The identities of points and matrices (document 01, "Points, matrices, intervals"): what determinants, products, pseudoinverses and multiples have to do with each
 -- other. Each is an identity of whole numbers, entry by entry, which the ring solver `law` proves; an equation of pairs or of matrices is put together from its entries.
 -- What is said here of matrices is said once for a row (a, b) of the first factor and a column (x, y) of the last, and used for all of them.
-use mathlib.Core.Path.{_≡_, refl, sym, _∙_, ap}
-use mathlib.Core.List.{List, [], _∷_}
-use native.Mathlib.Omega.{arith}
-use lib.ListN.{length}
-use lib.IntN.{ℤ, pos, negℤ, _+ℤ_, _*ℤ_}
-use Rattle.whole.specs.Range.{at}
-use Rattle.whole.proofs.Laws.{E, _⊕_, _⊖_, _⊗_, ⊝_, #, _≗_, law}
+use Rattle.whole.proofs.Laws.{_≡_, refl, sym, _∙_, ap, List, [], _∷_, arith, length, ℤ, pos, negℤ, _+ℤ_, _*ℤ_, at, E, _⊕_, _⊖_, _⊗_, ⊝_, #, _≗_, law}
 use Rattle.plane.specs.Plane.{Pair, det, apply, determinantOf, pseudoinverseOf, multiplyOf}
 use Rattle.plane.specs.Scale.{entries, scalePair, scaleOf, identityOf}
 

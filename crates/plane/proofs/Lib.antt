@@ -2,7 +2,7 @@
 --   Identities, SameSign              the algebra: determinants, products, pseudoinverses, multiples
 --   Moves, Points, Ends               a matrix with determinant above 0 keeps points, intervals, insides and closed intervals; multiples change nothing
 --   Cancelling                        `cancel-says`: lowest terms, the same matrix up to a positive factor, and the only one such
---   Words, Ranges                     machine words, ranges of results: for the functions here and in the crates above
+--   MachineNumbers, Ranges            machine words, ranges of results: for the functions here and in the crates above
 --   Laws                              all that the crates above use
 pub mod Laws
 mod SameSign
@@ -11,5 +11,5 @@ mod Moves
 mod Points
 mod Ends
 mod Cancelling
-mod Words
+mod MachineNumbers
 mod Ranges

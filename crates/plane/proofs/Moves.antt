@@ -2,12 +2,7 @@
 -- image of an interval is an interval, and the image of a point is a point.
 -- The argument: every determinant of two images is the matrix's determinant D times that of the two pairs (`det-apply`), so the product that says "inside" grows by D·D
 -- and keeps its sign. For points: the pseudoinverse leads back from the image to D times the point.
-use mathlib.Core.Path.{_≡_, sym, _∙_, subst}
-use mathlib.Core.List.{List}
-use lib.IntN.{ℤ, pos, _+ℤ_, _*ℤ_}
-use lib.Signed.{_<ℤ_}
-use Rattle.whole.specs.Range.{at}
-use Rattle.whole.proofs.Laws.{_⊕_, _⊗_, #, _≗_, law, ps-mul, _≈_, h, _⊡_, linear, _&_, _⇒_, _from_, claim}
+use Rattle.whole.proofs.Laws.{_≡_, sym, _∙_, subst, List, ℤ, pos, _+ℤ_, _*ℤ_, _<ℤ_, at, _⊕_, _⊗_, #, _≗_, law, ps-mul, _≈_, h, _⊡_, linear, _&_, _⇒_, _from_, claim}
 use Rattle.plane.specs.Plane.{Pair, Point, det, left, right, apply, determinantOf, pseudoinverseOf, multiplyOf, imageOf, Interval, Inside, Closed}
 use Rattle.plane.specs.Scale.{scalePair, DetAbove, SameSign}
 use Rattle.plane.proofs.SameSign.{grown, sign-back, sign-not-below, above-not-0, cancel-not-0}

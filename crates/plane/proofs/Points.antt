@@ -2,13 +2,7 @@
 -- Being the same point is reflexive, symmetric and transitive; of two points x and y it says that their determinant is 0 (then x·y times x is x·x times y, where the dot
 -- stands for the sum of the products of their entries). Matrices carry same points to same points. Inside and closed ask for the sign of a product in which the point
 -- stands twice, so a factor of the point comes in squared and the sign stays.
-use mathlib.Core.Path.{_≡_, refl, sym, _∙_, ap, subst}
-use mathlib.Core.Logic.{inl, inr}
-use mathlib.Core.List.{List}
-use native.Mathlib.Omega.{arith}
-use lib.IntN.{ℤ, pos, _+ℤ_, _*ℤ_}
-use Rattle.whole.specs.Range.{at}
-use Rattle.whole.proofs.Laws.{_⊕_, _⊗_, #, _≗_, law, nn-sq, _≦_, _≈_, h, _⊡_, linear, _&_, _⇒_, _from_, claim, zero-product, up<}
+use Rattle.whole.proofs.Laws.{_≡_, refl, sym, _∙_, ap, subst, inl, inr, List, arith, ℤ, pos, _+ℤ_, _*ℤ_, at, _⊕_, _⊗_, #, _≗_, law, nn-sq, _≦_, _≈_, h, _⊡_, linear, _&_, _⇒_, _from_, claim, zero-product, up<}
 use Rattle.plane.specs.Plane.{Pair, Point, SamePoint, det, apply, determinantOf, pseudoinverseOf, Inside, Closed}
 use Rattle.plane.specs.Scale.{scalePair, scaleOf, DetAbove, SameSign}
 use Rattle.plane.proofs.SameSign.{same-sign, above-not-0, product-not-0, cancel-not-0, square-above}

@@ -1,18 +1,8 @@
 -- Ranges of what `plane` computes, from the ranges of what it is given: if the entries of two matrices lie within a and b, those of their product lie within 2·a·b.
 -- The crates above show by these what the functions require.
-use mathlib.Core.Path.{_≡_}
-use mathlib.Core.Bool.{true, _&&_}
-use mathlib.Core.List.{List}
-use mathlib.Core.Logic.{inl, inr}
-use Prim.Native.Nat.{ℕ, suc, _+_, _-_, _*_, _^_, _≤_, _<_, _∣_}
+use Rattle.whole.proofs.Laws.{_≡_, true, _&&_, List, inl, inr, ℕ, suc, _+_, _-_, _*_, _^_, _≤_, _<_, _∣_, arith, le-leb, T, ltb, leb, ℤ, natAbs, _+ℤ_, _*ℤ_, at, Near, Within, gcd4, divided, Divides4, both-true, true-both, near-neg, near-mul, near-add, near-quot, gcd4-divides, gcd4-greatest}
 use native.Mathlib.Nat as N
-use native.Mathlib.Omega.{arith}
-use borrow.Author.Tests.{leb-true, le-leb}
-use lib.Dec.{T, ltb, leb}
-use lib.IntN.{ℤ, natAbs, _+ℤ_, _*ℤ_}
-use Rattle.whole.specs.Range.{at, Near, Within}
-use Rattle.whole.specs.Divisor.{gcd4, divided, Divides4}
-use Rattle.whole.proofs.Laws.{both-true, true-both, near-neg, near-mul, near-add, near-quot, gcd4-divides, gcd4-greatest}
+use borrow.Author.Tests.{leb-true}
 use Rattle.plane.specs.Tests.{within?}
 use Rattle.plane.specs.Fits.{Products}
 use Rattle.plane.specs.Plane.{pseudoinverseOf, multiplyOf, apply, imageOf, cancelOf}

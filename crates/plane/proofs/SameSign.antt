@@ -1,11 +1,7 @@
 -- Numbers of one sign. Two numbers that have a positive multiple in common, k·p = l·q with k and l above 0, lie both above 0, both below it, or are both 0.
 -- Everything in this crate that stays what it was (inside, closed, an interval, the sign of a determinant or of a matrix entry: document 01's "Signs stay") stays by
 -- this.
-use mathlib.Core.Path.{_≡_, _∙_}
-use mathlib.Core.Logic.{inl, inr}
-use lib.IntN.{ℤ, pos, _*ℤ_}
-use lib.Signed.{_≤ℤ_, _<ℤ_, clashℤ}
-use Rattle.whole.proofs.Laws.{_⊗_, #, _≗_, law, ≤-by, _≺_, _≈_, never, linear, quadratic, _⇒_, _from_, claim, less, same, more, tri, zero-product}
+use Rattle.whole.proofs.Laws.{_≡_, _∙_, inl, inr, ℤ, pos, _*ℤ_, _≤ℤ_, _<ℤ_, clashℤ, _⊗_, #, _≗_, law, ≤-by, _≺_, _≈_, never, linear, quadratic, _⇒_, _from_, claim, less, same, more, tri, zero-product}
 use Rattle.plane.specs.Scale.{SameSign}
 
 pub same-sign : (k l : ℤ) {p q : ℤ} → pos 0 <ℤ k → pos 0 <ℤ l → k *ℤ p ≡ l *ℤ q → SameSign p q

@@ -1,8 +1,6 @@
 -- A run that is judged first is either refused, and did nothing, or it is the run: `either`, by which every statement on judged runs goes. A run hands back no state
 -- that the next would refuse (`kept`), and a refused call is the same call again.
-use mathlib.Core.Path.{_≡_, refl, sym, ap, subst, _∙_}
-use Prim.Native.Nat.{ℕ, zero, suc}
-use Rattle.whole.specs.Refusal.{unlessRefused}
+use Rattle.whole.proofs.Laws.{_≡_, refl, sym, ap, subst, _∙_, ℕ, zero, suc, unlessRefused}
 use Rattle.runs.specs.Supply.{Supply, spend, join}
 use Rattle.runs.specs.Machine.{Machine, Lawful, Steady}
 use Rattle.runs.specs.Run.{Course, stopped, followedBy, run, judgedRun}

@@ -1,16 +1,11 @@
 -- A loop that makes the steps of a run, in its own variables: i and j bytes of the two words are taken, o digits and p divisors are written. So what was done in all is
 -- the first i bytes of x, the first o of the output, and so on. `Here` says that, `goes-to` that a turn which does a step's deed keeps it and leaves fewer steps, and
 -- `ends-with` what the run gives where a step halts.
-use mathlib.Core.Path.{_≡_, refl, sym, ap, subst, _∙_}
-use mathlib.Core.List.{List, [], _∷_, _++_, append-nil}
-use Prim.Native.Nat.{ℕ, _+_, _*_, _-_, _≤_, _<_}
-use native.Mathlib.Numerals.{add-one}
-use native.Mathlib.Omega.{arith}
-use lib.ListN.{length, take, drop, set, length-set, length-drop, take-append-drop}
-use lib.Seq.{length-take-le, take-add, take-append-seam, take-suc-set, drop-set-lt, drop-drop}
+use Rattle.whole.proofs.Laws.{_≡_, refl, sym, ap, subst, _∙_, List, [], _∷_, _++_, append-nil, ℕ, _+_, _*_, _-_, _≤_, _<_, add-one, arith, length, take, drop, set, length-set, length-drop, take-append-drop, length-take-le, take-add, take-append-seam, drop-drop}
+use lib.Seq.{take-suc-set, drop-set-lt}
 use Rattle.runs.specs.Supply.{Supply, Deed, nothing, andThen, spend, Pays, written}
 use Rattle.runs.specs.Machine.{goes, halts, Machine, Lawful}
-use Rattle.runs.specs.Run.{Course, stopped, behind, Runs, stops, makes, run}
+use Rattle.runs.specs.Run.{Course, behind, Runs, stops, makes, run}
 use Rattle.runs.proofs.Spending.{nothing-pays, spend-nothing, pays-both, spend-both, and-nothing, and-then, within}
 use Rattle.runs.proofs.Runs.{behind-nothing, does, only}
 

@@ -2,13 +2,9 @@
 -- took the first bytes that were there and wrote no more than there was room for (`paid`); what each step keeps, it keeps (`keeps`); its steps are as many as the bytes
 -- taken and the digits written allow (`few-steps`); stopped, it stops again (`stops-again`); it may be cut anywhere (`cut-anywhere`); and two machines that make the
 -- same steps make the same runs (`same-runs`). Each is an induction over the steps.
-use mathlib.Core.Path.{_≡_, refl, sym, ap, subst, _∙_}
-use Prim.Native.Nat.{ℕ, zero, suc, _+_, _*_, _≤_, _<_}
-use native.Mathlib.Nat.{add-zero}
-use native.Mathlib.Omega.{arith}
-use lib.ListN.{length, length-append}
+use Rattle.whole.proofs.Laws.{_≡_, refl, sym, ap, subst, _∙_, ℕ, zero, suc, _+_, _≤_, _<_, add-zero, arith, length, length-append}
 use Rattle.runs.specs.Supply.{Supply, Deed, nothing, andThen, spend, Pays, join, cost}
-use Rattle.runs.specs.Machine.{Outcome, goes, halts, Going, Machine, left, Does, Lawful, Same, Steady}
+use Rattle.runs.specs.Machine.{Outcome, goes, halts, Going, Machine, mostSteps, Does, Lawful, Same, Steady}
 use Rattle.runs.specs.Run.{Course, stopped, behind, followedBy, Runs, stops, makes, after, runBy, run}
 use Rattle.runs.proofs.Spending.{nothing-pays, spend-nothing, pays-both, spend-both, spend-join, cost-both, and-nothing, and-then}
 
@@ -19,8 +15,8 @@ module _ {State Stop : Type 0} {m : Machine State Stop} (lawful : Lawful m) wher
   pub does : (s t : State) (r : Supply) (d : Deed) → m .step s r ≡ goes t d → Does m s r t d
   does s t r d e = subst (Going (Does m s r)) e (lawful .each s r)
 
-  -- each step that does not halt makes `left` smaller
-  falls : (s t : State) (r : Supply) (d : Deed) → m .step s r ≡ goes t d → left m t (spend d r) < left m s r
+  -- each step that does not halt makes `mostSteps` smaller
+  falls : (s t : State) (r : Supply) (d : Deed) → m .step s r ≡ goes t d → mostSteps m t (spend d r) < mostSteps m s r
   falls s t r d e =
       let c = does s t r d e in
       let p = c .pays in
@@ -32,15 +28,15 @@ module _ {State Stop : Type 0} {m : Machine State Stop} (lawful : Lawful m) wher
   unfolding runBy
   next s r k v e = rw e
 
-  -- whatever number of steps is granted, if it is more than `left`
-  granted : {s : State} {r : Supply} {q : Course State Stop} → Runs m s r q → (k : ℕ) → left m s r < k → runBy m k s r ≡ q
+  -- whatever number of steps is granted, if it is more than `mostSteps`
+  granted : {s : State} {r : Supply} {q : Course State Stop} → Runs m s r q → (k : ℕ) → mostSteps m s r < k → runBy m k s r ≡ q
   granted g zero h = absurd (omega arith)
   granted {s} {r} (stops e p) (suc k) h = next s r k (halts e) p
   granted {s} {r} (makes t d p g) (suc k) h = next s r k (goes t d) p ∙ ap (behind d 1) (granted g k (omega (arith, falls s t r d p)))
 
   pub only : {s : State} {r : Supply} {q : Course State Stop} → Runs m s r q → run m s r ≡ q
   unfolding run
-  only {s} {r} g = granted g (suc (left m s r)) (omega arith)
+  only {s} {r} g = granted g (suc (mostSteps m s r)) (omega arith)
 
   -- there is a run from each place: by its first step, and then by what is left
   Some : State → Supply → Type 0
@@ -51,13 +47,13 @@ module _ {State Stop : Type 0} {m : Machine State Stop} (lawful : Lawful m) wher
   by-step s r more (goes t d) e = let g = more t d e in (behind d 1 (g .0), makes t d e (g .1))
   by-step s r more (halts e) p = (stopped e s, stops e p)
 
-  by-left : (n : ℕ) (s : State) (r : Supply) → left m s r < n → Some s r
+  by-left : (n : ℕ) (s : State) (r : Supply) → mostSteps m s r < n → Some s r
   by-left zero s r h = absurd (omega arith)
   by-left (suc n) s r h = by-step s r (λ t d e. by-left n t (spend d r) (omega (arith, falls s t r d e))) (m .step s r) refl
 
   pub runs : (s : State) (r : Supply) → Runs m s r (run m s r)
   unfolding Some
-  runs s r = let g = by-left (suc (left m s r)) s r (omega arith) in subst (Runs m s r) (sym (only (g .1))) (g .1)
+  runs s r = let g = by-left (suc (mostSteps m s r)) s r (omega arith) in subst (Runs m s r) (sym (only (g .1))) (g .1)
 
   -- ---- what it did could be done, and in how many steps
 

@@ -1,10 +1,5 @@
 -- Deeds one after the other: they can be done as one, and leave the same.
-use mathlib.Core.Path.{_≡_, refl, ap}
-use mathlib.Core.List.{List, _++_, append-assoc, append-nil}
-use Prim.Native.Nat.{ℕ, _+_, _-_, _≤_}
-use native.Mathlib.Omega.{arith}
-use lib.ListN.{length, drop, length-append}
-use lib.Seq.{drop-drop, drop-append-le}
+use Rattle.whole.proofs.Laws.{_≡_, refl, ap, List, _++_, append-assoc, append-nil, ℕ, _+_, _-_, _≤_, arith, length, drop, length-append, drop-drop, drop-append-le}
 use Rattle.runs.specs.Supply.{Supply, Deed, nothing, andThen, spend, Pays, join, cost}
 
 -- ---- of one list: a front that is taken, and then another

@@ -1,10 +1,6 @@
 -- A lent list after something was written into it: `written new out`, that is new, and behind it what stood there.
-use mathlib.Core.Path.{_≡_}
-use mathlib.Core.List.{List, _++_, append-assoc}
-use Prim.Native.Nat.{ℕ, _≤_}
-use native.Mathlib.Omega.{arith}
-use lib.ListN.{length, take, drop, length-append, length-drop}
-use lib.Seq.{drop-drop, drop-append-le, take-append-seam, drop-append-seam}
+use Rattle.whole.proofs.Laws.{_≡_, List, _++_, append-assoc, ℕ, _≤_, arith, length, take, drop, length-append, length-drop, drop-drop, drop-append-le, take-append-seam}
+use lib.Seq.{drop-append-seam}
 use Rattle.runs.specs.Supply.{written}
 
 -- "Bytes of the output beyond the written ones are unchanged."

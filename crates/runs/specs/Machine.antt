@@ -26,10 +26,10 @@ pub record Machine (State Stop : Type 0) : Type 0 where
   pub idle : Stop
 
 module _ {State Stop : Type 0} where
-  -- more than the steps that can still be made before one halts: two for each byte that is there, to take and to absorb it; one for each digit that is held, and one
+  -- no more steps than these can be made before one halts: two for each byte that is there, to take and to absorb it; one for each digit that is held, and one
   -- for each place
-  abbrev pub left : Machine State Stop → State → Supply → ℕ
-  left m s r = 2 * length (r .x) + 2 * length (r .y) + r .room + m .held s
+  abbrev pub mostSteps : Machine State Stop → State → Supply → ℕ
+  mostSteps m s r = 2 * length (r .x) + 2 * length (r .y) + r .room + m .held s
 
   -- what is asked of a step that goes from s, before r, to t and does d: it does what can be done, and it takes a byte for each digit that it holds more, or gives a
   -- digit out, or holds one less

@@ -3,7 +3,7 @@ use mathlib.Core.Path.{_≡_}
 use Prim.Native.Nat.{ℕ, zero, suc, _+_}
 use Rattle.whole.specs.Refusal.{unlessRefused}
 use Rattle.runs.specs.Supply.{Supply, Deed, nothing, andThen, spend}
-use Rattle.runs.specs.Machine.{Outcome, goes, halts, Machine, left}
+use Rattle.runs.specs.Machine.{Outcome, goes, halts, Machine, mostSteps}
 
 -- the course of a run: why it stopped, its state there, what it did in all (so every count is a length), and how many steps it made before the one that halts
 pub record Course (State Stop : Type 0) : Type 0 where
@@ -40,7 +40,7 @@ module _ {State Stop : Type 0} where
   runBy m (suc k) s r = after (runBy m k) s r (m .step s r)
 
   unfoldable pub run : Machine State Stop → State → Supply → Course State Stop
-  run m s r = runBy m (suc (left m s r)) s r
+  run m s r = runBy m (suc (mostSteps m s r)) s r
 
   -- A run that is judged before any step, by the number of the refusal, or 0: "it then answers the number, counts 0 and 0, the state as handed in, and an untouched
   -- output". What judges a state may look at anything else that a run is given and never changes.

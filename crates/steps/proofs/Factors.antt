@@ -1,12 +1,8 @@
 -- The products of a step can be formed and cancelled: a state's entries lie within 1,000,000,000 and a digit's numbers within 100, so those of the product lie within
 -- 200,000,000,000; and both determinants are above 0, so the product is not all 0.
-use Prim.Native.Nat.{ℕ}
-use mathlib.Core.List.{List}
-use lib.IntN.{ℤ}
-use Rattle.whole.proofs.Laws.{within-le}
-use Rattle.plane.specs.Plane.{pseudoinverseOf}
-use Rattle.plane.proofs.Laws.{det-above-multiply, det-above-pseudoinverse, divisor-above, multiply-within, pseudoinverse-within}
-use Rattle.digits.specs.System.{transformationAt}
+use Rattle.whole.proofs.Laws.{ℕ, List, ℤ, within-le}
+use Rattle.plane.proofs.Laws.{pseudoinverseOf, det-above-multiply, det-above-pseudoinverse, divisor-above, multiply-within, pseudoinverse-within}
+use Rattle.digits.proofs.Laws.{transformationAt}
 use Rattle.steps.specs.Types.{State}
 use Rattle.steps.specs.Made.{Factors, WorksWith}
 

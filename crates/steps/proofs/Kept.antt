@@ -1,30 +1,12 @@
 -- Every step keeps the rules for a state, and every digit that it gives out is one of the output system's: both hold wherever the plan goes on. Loading keeps X and
 -- holds a byte that was tested; giving and absorbing multiply X with a digit's matrix, whose determinant is above 0 (so the product's is), and cancel, after which the
 -- greatest common divisor is 1 and the sign of the determinant is the same (`cancel-says`); the range was tested.
-use mathlib.Core.Path.{_≡_, refl, sym, subst}
-use mathlib.Core.Bool.{true}
-use mathlib.Core.List.{List, [], _∷_, _++_}
-use mathlib.Core.Option.{Option, none, some}
-use Prim.Native.Nat.{ℕ, zero, suc, _<_}
-use native.Mathlib.Omega.{arith}
-use borrow.Author.Tests.{ltb-true}
-use lib.Dec.{ltb}
-use lib.ListN.{length, getD}
-use lib.IntN.{ℤ, pos}
-use lib.Signed.{_<ℤ_}
-use Rattle.whole.specs.Range.{Within}
-use Rattle.whole.proofs.Laws.{first-found}
-use Rattle.plane.specs.Plane.{determinantOf, imageOf, cancelOf}
-use Rattle.plane.specs.Scale.{DetAbove}
-use Rattle.plane.specs.Tests.{within?}
-use Rattle.plane.proofs.Laws.{within-says, cancel-says, det-above-multiply, det-above-pseudoinverse}
-use Rattle.inclusion.specs.Inclusion.{included?}
-use Rattle.digits.specs.System.{transformation, interval}
-use Rattle.admission.specs.Admitted.{Digits}
-use Rattle.runs.specs.Supply.{Supply, Deed, nothing, andThen}
-use Rattle.runs.specs.Machine.{Going}
-use Rattle.runs.specs.Plan.{Each, took-x, gave}
-use Rattle.runs.proofs.Laws.{follow-each, each-test}
+use Rattle.whole.proofs.Laws.{_≡_, refl, true, List, [], _∷_, _++_, Option, none, some, ℕ, zero, suc, _<_, arith, ltb-true, ltb, length, getD, ℤ, Within, first-found}
+use Rattle.plane.proofs.Laws.{imageOf, cancelOf, DetAbove, within?, within-says, cancel-says, det-above-multiply, det-above-pseudoinverse}
+use Rattle.inclusion.proofs.Laws.{included?}
+use Rattle.digits.proofs.Laws.{interval}
+use Rattle.admission.proofs.Laws.{Digits}
+use Rattle.runs.proofs.Laws.{Supply, Deed, nothing, andThen, Going, Each, took-x, gave, follow-each, each-test}
 use Rattle.steps.specs.Types.{Held, Nothing, Digit, State, NotADigit, RangeLeft}
 use Rattle.steps.specs.State.{loaded, given, absorbed, HeldDigit, StateRules}
 use Rattle.steps.specs.Step.{Setting, fits?, fittingOf, chosen, givenMatrix, absorbedMatrix, heldPlan, planBy, plan, plain}

@@ -1,16 +1,7 @@
 -- The step goes by plans, so it is lawful and steady (crates/runs): what is to be seen is that a plan pays for the digit that it holds. And why it stops.
-use mathlib.Core.Path.{_≡_, refl}
-use mathlib.Core.Logic.{_⊎_, inl, inr}
-use mathlib.Core.Option.{Option, none, some}
-use Prim.Native.Nat.{ℕ, suc, _+_, _≤_}
-use native.Mathlib.Omega.{arith}
-use lib.Dec.{ltb}
-use Rattle.plane.specs.Plane.{cancelOf}
-use Rattle.plane.specs.Tests.{within?}
-use Rattle.runs.specs.Supply.{Supply, Deed, nothing, cost}
-use Rattle.runs.specs.Machine.{Halting, Lawful, Steady}
-use Rattle.runs.specs.Plan.{Each, EachStop, took-x, gave}
-use Rattle.runs.proofs.Laws.{Always, each-test, follow-halts, stop-test, Cheap, planned-lawful, steady-always}
+use Rattle.whole.proofs.Laws.{_≡_, refl, _⊎_, inl, inr, Option, none, some, ℕ, suc, _+_, _≤_, arith, ltb}
+use Rattle.plane.proofs.Laws.{cancelOf, within?}
+use Rattle.runs.proofs.Laws.{Supply, Deed, nothing, cost, Halting, Lawful, Steady, Each, EachStop, took-x, gave, Always, each-test, follow-halts, stop-test, Cheap, planned-lawful, steady-always}
 use Rattle.steps.specs.Types.{Held, Nothing, Digit, State, Stop, InputUsed, NotADigit, RangeLeft}
 use Rattle.steps.specs.State.{loaded, given, absorbed, heldCount, endNumber}
 use Rattle.steps.specs.Step.{Setting, chosen, givenMatrix, absorbedMatrix, heldPlan, planBy, plan, plain}

@@ -1,15 +1,8 @@
 -- What the plan of a step does, as the functions of src/ meet it: each test comes out, and the plan is followed to its end.
-use mathlib.Core.Path.{_≡_, refl, sym}
-use mathlib.Core.Bool.{Bool, true, false, cond}
-use mathlib.Core.List.{List, [], _∷_}
-use Prim.Native.Nat.{ℕ, zero, suc, _<_, _≤_}
-use lib.Dec.{ltb}
-use lib.ListN.{length, drop, getD, drop-of-length-le}
+use Rattle.whole.proofs.Laws.{_≡_, refl, sym, Bool, true, false, cond, List, [], ℕ, zero, suc, _<_, _≤_, ltb, length, drop, getD, drop-of-length-le}
+use Rattle.plane.proofs.Laws.{within?}
+use Rattle.runs.proofs.Laws.{Supply, goes, halts, stop, go, digit, took-x, follow}
 use lib.Seq.{drop-cons}
-use Rattle.plane.specs.Tests.{within?}
-use Rattle.runs.specs.Supply.{Supply}
-use Rattle.runs.specs.Machine.{goes, halts}
-use Rattle.runs.specs.Plan.{stop, go, digit, took-x, follow}
 use Rattle.steps.specs.Types.{State, InputUsed, NoRoom, NotADigit, RangeLeft, Kind, Load, Give, Absorb, Move}
 use Rattle.steps.specs.State.{loaded}
 use Rattle.steps.specs.Step.{oneWord, ranged, loadPlan}

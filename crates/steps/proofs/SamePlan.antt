@@ -1,25 +1,11 @@
 -- "What is kept for the digits a system hasn't got .. no answer depends on it": where two settings have the same digits, a state that holds a digit of the input system,
 -- or none, has the same plan in both. A plan reads the held digit's interval and transformation, the intervals of the output digits and the transformation of the one
 -- that fits: all of these are digits of their systems.
-use mathlib.Core.Path.{_≡_, refl, sym, ap, _∙_}
-use mathlib.Core.List.{List}
-use mathlib.Core.Option.{Option, none, some}
-use Prim.Native.Nat.{ℕ, _≤_}
-use native.Mathlib.Omega.{arith}
-use borrow.Author.Tests.{ltb-true}
-use lib.Dec.{ltb}
-use lib.IntN.{ℤ}
-use Rattle.whole.specs.First.{first}
-use Rattle.whole.proofs.Laws.{first-same}
-use Rattle.plane.specs.Plane.{multiplyOf, pseudoinverseOf, imageOf, cancelOf}
-use Rattle.plane.specs.Tests.{within?}
-use Rattle.inclusion.specs.Inclusion.{included?}
-use Rattle.digits.specs.Types.{System}
-use Rattle.digits.specs.System.{SameDigits}
-use Rattle.runs.specs.Supply.{Supply, nothing}
-use Rattle.runs.specs.Machine.{Going}
-use Rattle.runs.specs.Plan.{Each, digit, took-x, gave}
-use Rattle.runs.proofs.Laws.{follow-each, each-test}
+use Rattle.whole.proofs.Laws.{_≡_, refl, ap, _∙_, List, Option, none, some, ℕ, _≤_, arith, ltb-true, ltb, ℤ, first, first-same}
+use Rattle.plane.proofs.Laws.{multiplyOf, pseudoinverseOf, imageOf, cancelOf, within?}
+use Rattle.inclusion.proofs.Laws.{included?}
+use Rattle.digits.proofs.Laws.{SameDigits}
+use Rattle.runs.proofs.Laws.{Supply, nothing, Going, Each, digit, took-x, gave, follow-each, each-test}
 use Rattle.steps.specs.Types.{Held, Nothing, Digit, State, NoRoom, NotADigit, RangeLeft}
 use Rattle.steps.specs.State.{loaded, given, absorbed, HeldDigit}
 use Rattle.steps.specs.Step.{Setting, ranged, loadPlan, fits?, fittingOf, chosen, givenMatrix, absorbedMatrix, heldPlan, planBy, plan, plain}

@@ -10,7 +10,7 @@ use Rattle.whole.specs.Divisor.{gcd4}
 use Rattle.plane.specs.Plane.{determinantOf, cancelOf}
 use Rattle.steps.specs.Types.{Held, Nothing, Digit, State, Stop, InputUsed, NoRoom, NotADigit, RangeLeft, Refused}
 
--- ---- a state is built in four ways, and in no other
+-- ---- a state is built in these four ways (and at the C boundary, from a plug-in's numbers)
 
 -- "X is M cancelled, nothing held": of the cancelled matrix
 abbrev pub opened : List ℤ → State

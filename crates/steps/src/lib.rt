@@ -1,5 +1,5 @@
 // One step of the unary algorithm: document 01's section "The step", its five lines, ends 0, 20, 21 and 22.
-// Public: `State`, `Held`, `Stop` and `end_number`. The rest is what a run is made of, for the crate `unary`.
+// Public: `State`, `Held`, `Stop` and `end_number`. The rest is what a run is made of, for our crates above.
 ghost use mathlib.Core.Path.{_≡_};
 ghost use mathlib.Core.Bool.{cond};
 ghost use mathlib.Core.List.{List};

@@ -1,20 +1,12 @@
 -- "A stopped run called again with exactly the bytes it didn't take and the room it didn't fill stops the same way, 0 and 0"; and called with more bytes, or more room,
 -- or both, it goes on as one call with all of it would have: a run may be cut anywhere, whatever the first call ended with. What holds of every judged run
 -- (crates/runs), read in document 01's words.
-use mathlib.Core.Path.{_≡_, refl, sym, ap, _∙_}
-use mathlib.Core.List.{List, [], _++_}
-use Prim.Native.Nat.{ℕ, _-_, _≤_}
-use native.Mathlib.Omega.{arith}
-use lib.ListN.{length, take, drop, length-append, length-drop}
+use Rattle.whole.proofs.Laws.{_≡_, sym, ap, _∙_, List, [], _++_, ℕ, _-_, _≤_, arith, length, take, drop, length-append, length-drop}
+use Rattle.digits.proofs.Laws.{System}
+use Rattle.runs.proofs.Laws.{Supply, Deed, spend, join, written, Course, judgedRun, behind-unchanged, front-written, written-both, judged-stops-again, judged-cut-anywhere}
+use Rattle.steps.proofs.Laws.{State, Stop, Refused, setting, plain, oneWord, lawful, steady}
 use lib.Seq.{drop-nil}
-use Rattle.digits.specs.Types.{System}
-use Rattle.runs.specs.Supply.{Supply, Deed, spend, join, written}
-use Rattle.runs.specs.Run.{Course, judgedRun}
 use Rattle.runs.specs.Run as course
-use Rattle.runs.proofs.Laws.{behind-unchanged, front-written, written-both, judged-stops-again, judged-cut-anywhere}
-use Rattle.steps.specs.Types.{State, Stop, Refused}
-use Rattle.steps.specs.Step.{setting, plain, oneWord}
-use Rattle.steps.proofs.Laws.{lawful, steady}
 use Rattle.unary.specs.Judging.{refusalOf}
 use Rattle.unary.specs.Run.{courseOf, leaves, runOf, untaken, unfilled, sameStop, followedBy}
 use Rattle.unary.proofs.Runs.{accepted-again, course-in-range}

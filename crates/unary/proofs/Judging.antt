@@ -1,29 +1,11 @@
 -- "A run judges its input system (3, 6 to 10), its output system, then the state (12), before any step." The test of refusal 12 says exactly the rules for a state;
 -- nothing is refused exactly if both systems are admitted and the state keeps the rules; a refusal has one of those numbers.
 -- The argument goes through the three judgements in their order: the first number that is not 0 decides.
-use mathlib.Core.Path.{_≡_, refl, sym, ap, _∙_}
-use mathlib.Core.Bool.{Bool, true, false, cond, _&&_}
-use mathlib.Core.Logic.{_⊎_, inl, inr, _↔_}
-use Prim.Native.Nat.{ℕ, zero, suc, _≤_}
-use native.Mathlib.Omega.{arith}
-use borrow.Author.Tests.{ltb-true, lt-ltb, eqb-true, eq-eqb}
-use lib.IntN.{pos}
-use lib.Signed.{ltZ}
-use Rattle.whole.specs.Divisor.{gcd4}
-use Rattle.whole.specs.Refusal.{unlessRefused}
-use Rattle.whole.proofs.Laws.{lt-true, true-lt, both-true, true-both}
-use Rattle.plane.specs.Plane.{determinantOf}
-use Rattle.plane.specs.Tests.{within?, lowest?}
-use Rattle.plane.proofs.Laws.{within-says, says-within}
-use Rattle.digits.specs.Types.{System}
-use Rattle.digits.specs.System.{Stored}
-use Rattle.admission.specs.Types.{Admitted}
-use Rattle.admission.specs.Admission.{refusalNumber, admissionOf, SystemNumber}
-use Rattle.admission.proofs.Laws.{number-0, admission-number, admitted-few, admitted-digits}
-use Rattle.steps.specs.Types.{Held, Nothing, Digit, State}
-use Rattle.steps.specs.State.{HeldDigit, StateRules}
-use Rattle.steps.specs.Step.{Setting}
-use Rattle.steps.specs.Made.{Usable, Ready}
+use Rattle.whole.proofs.Laws.{_≡_, refl, Bool, true, false, cond, _&&_, _⊎_, inl, inr, _↔_, ℕ, zero, suc, arith, ltb-true, lt-ltb, eqb-true, eq-eqb, pos, ltZ, gcd4, unlessRefused, lt-true, true-lt, both-true, true-both}
+use Rattle.plane.proofs.Laws.{determinantOf, within?, lowest?, within-says, says-within}
+use Rattle.digits.proofs.Laws.{System, Stored}
+use Rattle.admission.proofs.Laws.{Admitted, refusalNumber, admissionOf, SystemNumber, number-0, admission-number, admitted-few, admitted-digits}
+use Rattle.steps.proofs.Laws.{Held, Nothing, Digit, State, HeldDigit, StateRules, Setting, Usable, Ready}
 use Rattle.unary.specs.Judging.{heldDigit?, state?, refusalOf}
 
 -- ---- the test of refusal 12

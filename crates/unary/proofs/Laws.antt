@@ -10,3 +10,10 @@ pub use Rattle.unary.proofs.Again.{stops-again, cut-anywhere}
 pub use Rattle.unary.proofs.SameRun.{same-course, same-run}
 -- no second answer fits
 pub use Rattle.unary.proofs.OneAnswer.{one-opening, one-opening-sentence, one-judgement, RunPromise, one-run}
+-- the definitions
+unfoldable pub use Rattle.unary.specs.Judging.{refusalOf, state?}
+pub use Rattle.unary.specs.Opening.{OpeningCase, openingNumber, openingOf, startOf}
+unfoldable pub use Rattle.unary.specs.Opening.{openOf}
+pub use Rattle.unary.specs.Run.{Ran}
+unfoldable pub use Rattle.unary.specs.Run.{courseOf, runOf, stepsOf}
+pub use Rattle.unary.specs.Types.{Answer, NotAbove, Opening, Opens, OutOfRange, Start}

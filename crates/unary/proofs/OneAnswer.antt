@@ -1,12 +1,8 @@
 -- "That no second answer fits is itself proved": whatever two answers keep the promise of `open`, of `state_kept` or of `run`, they are the same; of a run the bytes
 -- of the output, too. Each promise is an equation with one value, which both answers then are. And no two of document 01's sentences on opening hold of one matrix.
-use mathlib.Core.Path.{_≡_, sym, _∙_}
-use mathlib.Core.Bool.{Bool}
-use mathlib.Core.List.{List}
-use Prim.Native.Nat.{ℕ}
-use lib.IntN.{ℤ}
-use Rattle.digits.specs.Types.{System}
-use Rattle.steps.specs.Types.{State}
+use Rattle.whole.proofs.Laws.{_≡_, sym, _∙_, Bool, List, ℕ, ℤ}
+use Rattle.digits.proofs.Laws.{System}
+use Rattle.steps.proofs.Laws.{State}
 use Rattle.unary.specs.Types.{Opening, Start, Answer}
 use Rattle.unary.specs.Opening.{openOf, OpeningCase}
 use Rattle.unary.specs.Judging.{state?}

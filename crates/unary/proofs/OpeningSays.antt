@@ -1,18 +1,7 @@
 -- Opening: "6, then 11". Each answer is given exactly in its case; and where it opens, the state that is handed out keeps the rules for a state.
-use mathlib.Core.Path.{_≡_, refl, sym, _∙_, ap, subst}
-use mathlib.Core.Bool.{Bool, true, false, cond, true≢false}
-use mathlib.Core.List.{List}
-use mathlib.Core.Logic.{_↔_}
-use Prim.Native.Nat.{ℕ}
-use lib.IntN.{ℤ, pos}
-use lib.Signed.{ltZ, clashℤ}
-use Rattle.whole.specs.Range.{Within}
-use Rattle.whole.proofs.Laws.{within-le, lt-true, lt-false}
-use Rattle.plane.specs.Plane.{determinantOf}
-use Rattle.plane.specs.Tests.{within?}
-use Rattle.plane.proofs.Laws.{within-says, says-within, cancel-within}
-use Rattle.steps.specs.State.{StateRules}
-use Rattle.steps.proofs.Laws.{cancelled-rules}
+use Rattle.whole.proofs.Laws.{_≡_, refl, sym, _∙_, ap, subst, Bool, true, false, cond, true≢false, List, _↔_, ℕ, ℤ, pos, ltZ, clashℤ, Within, within-le, lt-true, lt-false}
+use Rattle.plane.proofs.Laws.{determinantOf, within?, within-says, says-within, cancel-within}
+use Rattle.steps.proofs.Laws.{StateRules, cancelled-rules}
 use Rattle.unary.specs.Types.{Opening, Opens, OutOfRange, NotAbove, Start}
 use Rattle.unary.specs.Opening.{openingOf, openOf, OpeningCase, startOf}
 

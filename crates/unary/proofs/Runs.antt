@@ -4,23 +4,12 @@
 -- was refused. `written-only`: "Bytes of the output beyond the written ones are unchanged." `few-steps`: a run makes at most 2·taken + written + 1 steps, and one more
 -- where a digit was held at the start. (Without the one more it is false: a run that absorbs a held digit and then finds no byte makes 2 steps, takes nothing and
 -- writes nothing.)
-use mathlib.Core.Path.{_≡_, refl, sym, ap, subst, _∙_}
-use mathlib.Core.List.{List}
-use mathlib.Core.Logic.{_⊎_, inl, inr}
-use Prim.Native.Nat.{ℕ, zero, suc, _+_, _*_, _≤_, _<_}
-use native.Mathlib.Omega.{arith}
-use lib.ListN.{length, getD, drop, List·getD-append}
-use Rattle.digits.specs.Types.{System}
+use Rattle.whole.proofs.Laws.{_≡_, refl, ap, subst, List, _⊎_, inl, inr, ℕ, zero, suc, _+_, _*_, _≤_, _<_, arith, length, getD, drop, List·getD-append}
+use Rattle.digits.proofs.Laws.{System}
 use Rattle.admission.proofs.Laws.{admitted-digits}
-use Rattle.runs.specs.Supply.{Supply, nothing, spend, Pays, cost}
-use Rattle.runs.specs.Machine.{Halting}
-use Rattle.runs.specs.Run.{Course, stopped, run}
-use Rattle.runs.proofs.Laws.{within, nothing-pays, behind-unchanged, length-written, runs, paid, keeps, last-step, either, accepted-run, refused-run}
+use Rattle.runs.proofs.Laws.{Supply, nothing, spend, Pays, cost, Halting, Course, stopped, run, within, nothing-pays, behind-unchanged, length-written, runs, paid, keeps, last-step, either, accepted-run, refused-run}
+use Rattle.steps.proofs.Laws.{Nothing, State, Stop, Refused, StateRules, heldCount, endNumber, Setting, setting, plain, oneWord, lawful, StepEnd, step-stops, Below, below-at, Kept, step-keeps}
 use Rattle.runs.proofs.Laws as every
-use Rattle.steps.specs.Types.{Nothing, State, Stop, Refused}
-use Rattle.steps.specs.State.{StateRules, heldCount, endNumber}
-use Rattle.steps.specs.Step.{Setting, setting, plain, oneWord}
-use Rattle.steps.proofs.Laws.{lawful, StepEnd, step-stops, Below, below-at, Kept, step-keeps}
 use Rattle.unary.specs.Judging.{refusalOf}
 use Rattle.unary.specs.Run.{Ran, courseOf, leaves, runOf, stepsOf, runSteps}
 use Rattle.unary.proofs.Judging.{accepted, RefusalNumber, refusal-number}

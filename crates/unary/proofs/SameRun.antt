@@ -1,22 +1,10 @@
 -- "What is kept for the digits a system hasn't got is 0 when it is read, and no answer depends on it": two pairs of systems with the same digits make the same run. They
 -- are judged alike (`unused-rows` of crates/admission), and each step is the same (`same-plan` of crates/steps), since what is held stays a digit of the input system.
-use mathlib.Core.Path.{_≡_, sym, ap, _∙_}
-use mathlib.Core.Bool.{cond}
-use mathlib.Core.List.{List}
-use Prim.Native.Nat.{ℕ}
-use lib.ListN.{length}
-use Rattle.whole.specs.Refusal.{unlessRefused}
-use Rattle.digits.specs.Types.{System}
-use Rattle.digits.specs.System.{SameDigits}
-use Rattle.admission.specs.Admission.{refusalNumber}
-use Rattle.admission.proofs.Laws.{admitted-few, unused-rows}
-use Rattle.runs.specs.Plan.{Plan, follow}
-use Rattle.runs.specs.Run.{Course}
-use Rattle.runs.proofs.Laws.{same-runs, either, accepted-run, refused-run}
-use Rattle.steps.specs.Types.{State, Stop, Refused}
-use Rattle.steps.specs.State.{HeldDigit}
-use Rattle.steps.specs.Step.{setting, plain, oneWord}
-use Rattle.steps.proofs.Laws.{lawful, same-plan, step-holds}
+use Rattle.whole.proofs.Laws.{_≡_, sym, ap, _∙_, cond, List, ℕ, length, unlessRefused}
+use Rattle.digits.proofs.Laws.{System, SameDigits}
+use Rattle.admission.proofs.Laws.{refusalNumber, admitted-few, unused-rows}
+use Rattle.runs.proofs.Laws.{Plan, follow, Course, same-runs, either, accepted-run, refused-run}
+use Rattle.steps.proofs.Laws.{State, Stop, Refused, HeldDigit, setting, plain, oneWord, lawful, same-plan, step-holds}
 use Rattle.unary.specs.Judging.{state?, refusalOf}
 use Rattle.unary.specs.Run.{courseOf, leaves, runOf}
 use Rattle.unary.proofs.Judging.{accepted}

@@ -1,20 +1,8 @@
 -- A turn of the loop is a step of the run, in the loop's variables: i bytes taken, o digits written. One law for each kind of step.
-use mathlib.Core.Path.{_≡_, refl, sym, ap, subst, _∙_}
-use mathlib.Core.List.{List, [], _∷_}
-use Prim.Native.Nat.{ℕ, _+_, _-_, _<_}
-use native.Mathlib.Omega.{arith}
-use lib.ListN.{length, drop, set, length-drop}
-use lib.Seq.{length-take-le}
-use Rattle.runs.specs.Supply.{Supply, Deed, nothing, andThen, Pays, written}
-use Rattle.runs.specs.Machine.{goes, Going}
-use Rattle.runs.specs.Plan.{took-x, gave}
-use Rattle.runs.proofs.Laws.{within, does, Lent, took-none, took-front, wrote-none, wrote-one}
+use Rattle.whole.proofs.Laws.{_≡_, refl, sym, ap, subst, _∙_, List, [], _∷_, ℕ, _+_, _-_, _<_, arith, length, drop, set, length-drop, length-take-le}
+use Rattle.runs.proofs.Laws.{Supply, Deed, nothing, andThen, Pays, written, goes, Going, took-x, gave, within, does, Lent, took-none, took-front, wrote-none, wrote-one}
+use Rattle.steps.proofs.Laws.{State, Stop, Kind, Load, Give, Absorb, Halt, Move, StateRules, Setting, plan, plain, oneWord, outcomeBy, StaysBy, Follows, Ready, lawful, Kept, step-keeps}
 use Rattle.runs.proofs.Laws as loop
-use Rattle.steps.specs.Types.{State, Stop, Kind, Load, Give, Absorb, Halt, Move}
-use Rattle.steps.specs.State.{StateRules}
-use Rattle.steps.specs.Step.{Setting, plan, plain, oneWord}
-use Rattle.steps.specs.Made.{outcomeBy, StaysBy, Follows, Ready}
-use Rattle.steps.proofs.Laws.{lawful, Kept, step-keeps}
 use Rattle.unary.specs.Run.{stepsOf}
 
 -- ---- the loop: one word, a list for digits, none for divisors

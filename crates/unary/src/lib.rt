@@ -89,7 +89,7 @@ fn held_below(n: usize, h: Held) -> bool
 }
 
 // Whether a state keeps the rules for a state, with an input system of n digits: what refusal 12 is about. Of any state at all.
-pub fn state_kept(n: usize, s: State) -> bool
+fn state_kept(n: usize, s: State) -> bool
     ensures { λ r. ⌜ r ≡ state? n s ⌝ }
 {
     let x = s.matrix;

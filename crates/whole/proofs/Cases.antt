@@ -6,12 +6,7 @@
 -- Elsewhere: ≤ is reflexive, < is not, and a < b ≤ c (`≤ℤ-refl`, `<ℤ-irrefl`, `<ℤ-≤ℤ-trans`, and `clashℤ` for two facts that can't both hold) in the kit's `lib.Signed`;
 -- antisymmetry (`≤-antisym`) and proofs by contradiction (`≤-by`, `<-by`) in proofs/Order.antt; what a test says in proofs/Test.antt.
 -- Private: the cases of `product-ps` and `zero-product` (`factor-ps`, `turned-..`, `nought-ps`, `factor-zero`).
-use mathlib.Core.Path.{_≡_, ap}
-use mathlib.Core.Logic.{_⊎_, inl, inr}
-use Prim.Native.Nat.{ℕ, _≤_, _<_, zero-le}
-use lib.Dec.{leb→le, le→leb, ltb→lt, lt→ltb}
-use lib.IntN.{ℤ, pos, natAbs, _*ℤ_}
-use lib.Signed.{_≤ℤ_, _<ℤ_, leZ-yes, ltZ-yes}
+use Rattle.whole.proofs.Base.{_≡_, ap, _⊎_, inl, inr, ℕ, _≤_, _<_, zero-le, leb→le, le→leb, ltb→lt, lt→ltb, ℤ, pos, natAbs, _*ℤ_, _≤ℤ_, _<ℤ_, leZ-yes, ltZ-yes}
 use Rattle.whole.proofs.Polynomial.{_⊗_}
 use Rattle.whole.proofs.Law.{#}
 use Rattle.whole.proofs.Order.{<-or-≥, ≤-antisym}

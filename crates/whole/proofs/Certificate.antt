@@ -7,13 +7,8 @@
 --
 -- What others name: the facts ≦ ≺ ≈ `never`, and the certificate's parts: `h i`, `num n` for a number, `sq e` for a square, ⊞ and ⊠ for sum and product, `e ⊡ c` for an
 -- equation times any expression, `dec c` for 0 ≤ x − 1 from 0 < x. The statements are written with proofs/Claim.antt. Private: the law of each part (`cert-ok`, ..).
-use mathlib.Core.Path.{_≡_, refl, sym, _∙_, ap, ap₂, subst}
-use mathlib.Core.Bool.{Bool, true, false}
-use mathlib.Core.List.{List, [], _∷_}
-use Prim.Native.Nat.{ℕ, zero, suc}
-use lib.Dec.{T}
-use lib.IntN.{ℤ, pos, negsuc, _+ℤ_, _*ℤ_, _-ℤ_, +ℤ-idl, +ℤ-idr, *ℤ-zero}
-use lib.Signed.{_≤ℤ_, _<ℤ_, ≤ℤ-refl}
+use Rattle.whole.proofs.Base.{_≡_, refl, sym, _∙_, ap, ap₂, subst, Bool, true, false, List, [], _∷_, ℕ, zero, suc, T, ℤ, pos, negsuc, _+ℤ_, _*ℤ_, _-ℤ_, +ℤ-idl, +ℤ-idr, *ℤ-zero, _≤ℤ_, _<ℤ_}
+use lib.Signed.{≤ℤ-refl}
 use Rattle.whole.proofs.Polynomial.{E, con, _⊕_, _⊖_, _⊗_, eval, H, C, X, evalH, hd, tl, norm, norm-ok, isZero, isZero-ok, and, and-l, and-r}
 use Rattle.whole.proofs.Sign.{Sgn, nn, ps, zr, Sat, addS, mulS, numS, decS, wrong, addS-ok, mul-zr, mulS-ok, num-ok, wrong-ok}
 use Rattle.whole.proofs.Order.{sub-of-le, sub-of-lt, nn-sq, ps-dec, ≤-by, <-by}

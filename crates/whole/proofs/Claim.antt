@@ -7,11 +7,7 @@
 -- `from linear & h 1 ⊠ h 2 & ..` among the products that are named, which is quicker. `by c` takes the certificate c and searches nothing. In both `h 0` is the goal's
 -- negation, and `h 1`, `h 2`, .. are the facts in order. proofs/Worked.antt has an example of each form.
 -- What others name: `claim`, ⇒, `from`, `by`; `Fact` and `fact` for a claim whose type is the expressions themselves; `found` to see what the search found.
-use mathlib.Core.Bool.{Bool}
-use mathlib.Core.List.{List, [], _∷_}
-use Prim.Native.Nat.{ℕ}
-use lib.Dec.{T}
-use lib.IntN.{ℤ}
+use Rattle.whole.proofs.Base.{Bool, List, [], _∷_, ℕ, T, ℤ}
 use Rattle.whole.proofs.Law.{Fn, inst, All, all}
 use Rattle.whole.proofs.Certificate.{Atom, _≦_, _≺_, _≈_, never, Cert, Holds, AllH, snoc, snoc-ok, proves, proves-ok}
 use Rattle.whole.proofs.Search.{Hints, find, finds, finds-ok}

@@ -3,13 +3,8 @@
 -- specs/Divisor.antt defines it by Euclid's steps. Here: it divides both, every common divisor divides it, and Euclid's step as an equation.
 -- Then the four entries of a matrix: divided by their greatest common divisor they have none but 1 (`reduced`), and no other divisor leaves that (`reduced-only`). `Times4 k n m` is k·n = m, entry by entry.
 -- Private: the laws by the number of steps (`by-..`), and those of one entry (`sizes`, `up`, `down`).
-use mathlib.Core.Path.{_≡_, sym, _∙_, ap, subst}
-use mathlib.Core.List.{List}
-use Prim.Native.Nat.{ℕ, zero, suc, _*_, _/_, _%_, _≤_, _<_, _∣_}
+use Rattle.whole.proofs.Base.{_≡_, sym, _∙_, ap, subst, List, ℕ, zero, suc, _*_, _/_, _%_, _≤_, _<_, _∣_, arith, ℤ, pos, negsuc, negℤ, natAbs, _*ℤ_, quotZ}
 use native.Mathlib.Nat as N
-use native.Mathlib.Omega.{arith}
-use lib.IntN.{ℤ, pos, negsuc, negℤ, natAbs, _*ℤ_}
-use lib.Signed.{quotZ}
 use Rattle.whole.specs.Range.{at}
 use Rattle.whole.specs.Divisor.{gcdBy, gcd, gcd4, divided, Divides4}
 use Rattle.whole.proofs.Ring.{mul-neg}

@@ -1,12 +1,6 @@
 -- The laws of `first`: what a loop meets at each turn (a hit, a miss, the end), what an answer says, and that it looks at nothing else than the numbers that it passes.
-use mathlib.Core.Path.{_≡_, refl, sym, ap, _∙_}
-use mathlib.Core.Bool.{Bool, true, false, cond}
-use mathlib.Core.Option.{none, some}
-use Prim.Native.Nat.{ℕ, zero, suc, _+_, _-_, _<_, _≤_}
+use Rattle.whole.proofs.Base.{_≡_, refl, sym, ap, _∙_, Bool, true, false, cond, none, some, ℕ, zero, suc, _+_, _-_, _<_, _≤_, arith, add-one, ℕ-discrete}
 use native.Mathlib.Nat.{sub-zero}
-use native.Mathlib.Omega.{arith}
-use native.Mathlib.Numerals.{add-one}
-use native.Mathlib.Decide.{ℕ-discrete}
 use Rattle.whole.specs.First.{first}
 
 -- ---- a loop that searches, and stands at i: what it will find is what the whole search finds. It begins so, it goes on so where i doesn't pass, and it ends with i

@@ -6,12 +6,7 @@
 -- A law of up to twelve variables and degree 6 takes under a tenth of a second. What others name: `law`, `#`, `≗`; `Ident` and `by-ring` for an identity whose type
 -- is the expressions themselves; `left-over` to see why one is refused. proofs/Worked.antt has an example of each. `Fn`, `inst`, `All` and `all` serve
 -- proofs/Claim.antt too. Private: `says`.
-use mathlib.Core.Path.{_≡_}
-use mathlib.Core.Bool.{Bool, true, false}
-use mathlib.Core.List.{List, [], _∷_, _++_}
-use Prim.Native.Nat.{ℕ, zero, suc}
-use lib.Dec.{T}
-use lib.IntN.{ℤ, pos}
+use Rattle.whole.proofs.Base.{_≡_, Bool, true, false, List, [], _∷_, _++_, ℕ, zero, suc, T, ℤ, pos}
 use Rattle.whole.proofs.Polynomial.{E, var, con, _⊖_, eval, H, C, X, norm, isZ, same, ring}
 
 -- ---- what is written: numbers, and equations between expressions

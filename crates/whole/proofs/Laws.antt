@@ -26,3 +26,20 @@ pub use Rattle.whole.proofs.Divisor.{Times, Times4, divided-times, up4,
 pub use Rattle.whole.proofs.First.{Standing, begins, misses, hits, ends, Found, first-found, first-none, found-first, none-first, first-same}
 -- "0 passes, else the number decides"
 pub use Rattle.whole.proofs.Refusal.{passed, decided}
+-- the words of the library
+pub use Rattle.whole.proofs.Base.{*ℤ-comm, *ℤ-zero, +ℤ-assoc, +ℤ-comm, +ℤ-idl, +ℤ-idr, +ℤ-invl, Bool, List, List·getD-append, List·getD-eq-default, Option, T, T-not}
+pub use Rattle.whole.proofs.Base.{[], _%_, _&&_, _*_, _*ℤ_, _++_, _+_, _+ℤ_, _-_, _-ℤ_, _/_, _<_, _<ℤ_, _^_, _||_, _↔_, _∙_, _∣_, _∷_, _≡_, _≤_, _≤ℤ_, _⊎_, add-one}
+pub use Rattle.whole.proofs.Base.{add-zero, ap, append-assoc, append-nil, ap₂, arith, clashℤ, cond, decLe, decLt, div-le-self, drop, drop-append-le, drop-at}
+pub use Rattle.whole.proofs.Base.{drop-drop, drop-of-length-le, eq-eqb, eq-zero-or-pos, eqb, eqb-true, eqb→eq, false, false≢true, getD, getD-take, inl, inr, le-leb}
+pub use Rattle.whole.proofs.Base.{le-ltb, le-refl, le-trans, leZ, leZ-yes, leb, leb→le, length, length-append, length-drop, length-set, length-take-le, le→leb, lt-leb}
+pub use Rattle.whole.proofs.Base.{lt-ltb, lt-of-le-of-lt, ltZ, ltZ-no, ltZ-yes, ltb, ltb-true, ltb→lt, lt→ltb, mag, map, mod-add-div, mul-le-mul, mul-le-mul-left}
+pub use Rattle.whole.proofs.Base.{natAbs, ne-eqb, needs, negsuc, negℤ, none, not, not-false, not-true, now, one-dvd, pos, quotZ, refl, replicate, set, sets, some}
+pub use Rattle.whole.proofs.Base.{subst, subst₂, suc, sym, take, take-add, take-all, take-append-drop, take-append-seam, take-at, take-suc, true, true≢false, zero}
+pub use Rattle.whole.proofs.Base.{zero-*ℤ, zero-le, ℕ, ℕ-discrete, ℤ}
+-- the definitions
+pub use Rattle.whole.specs.Divisor.{Divides4, Exact, divided}
+unfoldable pub use Rattle.whole.specs.Divisor.{gcd, gcd4, gcdBy}
+pub use Rattle.whole.specs.First.{found?}
+unfoldable pub use Rattle.whole.specs.First.{first}
+pub use Rattle.whole.specs.Range.{Near, Within, at}
+unfoldable pub use Rattle.whole.specs.Refusal.{unlessRefused}

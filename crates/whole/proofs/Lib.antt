@@ -13,6 +13,7 @@
 -- finds is tested. This is why they stand here and not in specs/, which holds only what a contract means.
 -- The folders magnitude, quotient and +gcd prove the functions of src/lib.rt; `+` marks one that calls itself.
 pub mod Laws
+mod Base
 mod Ring
 mod Polynomial
 mod Law

@@ -6,13 +6,8 @@
 -- within 1000, p = mul-stands (stored h1 tt) (stored h2 tt) tt and q likewise stand for the products, and `sub-ok p q tt` is what the difference asks. Each `tt` is a
 -- test on bounds, that they are below 2^63.
 -- Private: `mag-le`.
-use mathlib.Core.Path.{_≡_, refl, sym, ap₂, subst, subst₂, _∙_}
-use Prim.Native.Nat.{ℕ, _+_, _*_, _<_, _≤_, _^_}
-use native.Mathlib.Nat.{lt-of-le-of-lt, le-refl}
-use native.Mathlib.Omega.{arith}
-use lib.Dec.{T, ltb, ltb→lt}
-use lib.IntN.{ℤ, pos, negsuc, natAbs, _+ℤ_, _-ℤ_, _*ℤ_}
-use lib.Signed.{mag, nonNeg, _≤ℤ_, yes-nonNeg}
+use Rattle.whole.proofs.Base.{_≡_, refl, sym, ap₂, subst, subst₂, _∙_, ℕ, _+_, _*_, _<_, _≤_, _^_, lt-of-le-of-lt, le-refl, arith, T, ltb, ltb→lt, ℤ, pos, negsuc, natAbs, _+ℤ_, _-ℤ_, _*ℤ_, mag, _≤ℤ_}
+use lib.Signed.{nonNeg, yes-nonNeg}
 use mir.Syntax.{Width, w16, w64}
 use mir.Val.{Fits, SFits, ofZ, toZ}
 use mir.Facts.{toZ-ofZ, toZ-pos, sfits-widen, fits-natAbs}

@@ -6,15 +6,10 @@
 --   a < b or b ≤ a                                     `<-or-≥`, and from it the proofs by contradiction, `≤-by` and `<-by`
 -- Names: `nn` is "not negative", `ps` is "positive". Write `a ≤ℤ (b +ℤ c)` with brackets: the order binds tighter than the sum.
 -- Private: the names with ′, each the law of the same name on the tests, by the cases of two numbers. Laws that follow by a claim are in proofs/Cases.antt.
-use mathlib.Core.Path.{_≡_, sym, _∙_, ap, subst}
-use mathlib.Core.Bool.{Bool, true, false, not, cond}
-use mathlib.Core.Logic.{_⊎_, inl, inr}
-use Prim.Native.Nat.{ℕ, zero-le, zero, suc, _+_, _*_, _-_, _≤_, _<_}
+use Rattle.whole.proofs.Base.{_≡_, sym, _∙_, ap, subst, Bool, true, false, not, cond, _⊎_, inl, inr, ℕ, zero-le, zero, suc, _+_, _*_, _-_, _≤_, _<_, arith, T, ltb, ltb→lt, lt→ltb, le→leb, leb→le, pos, negsuc, _+ℤ_, _*ℤ_, _-ℤ_, +ℤ-idl, +ℤ-idr, +ℤ-assoc, +ℤ-invl, leZ, ltZ, _≤ℤ_, _<ℤ_, ltZ-yes, ltZ-no, clashℤ}
 use native.Mathlib.Nat as N
-use native.Mathlib.Omega.{arith}
-use lib.Dec.{T, ltb, ltb→lt, lt→ltb, le→leb, leb→le}
-use lib.IntN.{ℤ, pos, negsuc, _+ℤ_, _*ℤ_, _-ℤ_, +ℤ-idl, +ℤ-idr, +ℤ-assoc, +ℤ-invl, -ℤ-one}
-use lib.Signed.{leZ, ltZ, _≤ℤ_, _<ℤ_, ltZ-yes, ltZ-no, <ℤ-irrefl, clashℤ}
+use lib.IntN.{ℤ, -ℤ-one}
+use lib.Signed.{<ℤ-irrefl}
 use Rattle.whole.proofs.Polynomial.{con, _⊕_, _⊖_}
 use Rattle.whole.proofs.Law.{_≗_, law}
 

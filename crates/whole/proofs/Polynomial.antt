@@ -8,12 +8,8 @@
 --
 -- Whatever computes is an `abbrev`, so that a test comes out as true, and `tt` proves it, in every crate. All of it is public for that reason; what others should name
 -- are E, its signs ⊕ ⊖ ⊗ ⊝, and `con`. Private: the law that each operation keeps the value (`add-ok`, `mul-ok`, ..).
-use mathlib.Core.Path.{_≡_, refl, sym, _∙_, ap, ap₂}
-use mathlib.Core.Bool.{Bool, true, false}
-use mathlib.Core.List.{List, [], _∷_}
-use Prim.Native.Nat.{ℕ, zero, suc}
-use lib.Dec.{T, eqb, eqb→eq}
-use lib.IntN.{ℤ, pos, negsuc, negℤ, _+ℤ_, _*ℤ_, +ℤ-idl, +ℤ-idr, +ℤ-assoc, +ℤ-comm, zero-*ℤ, *ℤ-zero, *ℤ-comm, negℤ-+ℤ, -ℤ-+ℤ-cancel}
+use Rattle.whole.proofs.Base.{_≡_, refl, sym, _∙_, ap, ap₂, Bool, true, false, List, [], _∷_, ℕ, zero, suc, T, eqb, eqb→eq, ℤ, pos, negsuc, negℤ, _+ℤ_, _*ℤ_, +ℤ-idl, +ℤ-idr, +ℤ-assoc, +ℤ-comm, zero-*ℤ, *ℤ-zero, *ℤ-comm}
+use lib.IntN.{negℤ-+ℤ, -ℤ-+ℤ-cancel}
 use Rattle.whole.proofs.Ring.{distrib-l, distrib-r, *ℤ-assoc, mul-neg, one-*ℤ, interchange, mul-left-comm, swap-r}
 
 -- ---- expressions and their values

@@ -4,16 +4,7 @@
 -- `near-add (near-mul h k) h : Near (100 * 1000 + 100) (x *ℤ y +ℤ x)`, and `near-le .. tt` for a wider range: the `tt` is the test that the one bound is at most the
 -- other.
 -- Private: `difference`.
-use mathlib.Core.Path.{_≡_, refl, ap}
-use mathlib.Core.Bool.{Bool, true, false, cond}
-use mathlib.Core.List.{List}
-use Prim.Native.Nat.{ℕ, zero, suc, _+_, _-_, _*_, _/_, _≤_}
-use native.Mathlib.Nat.{le-refl, le-trans, mul-le-mul, div-le-self}
-use native.Mathlib.Omega.{arith}
-use lib.Dec.{T, ltb, leb, leb→le}
-use borrow.Author.Tests.{ltb-true}
-use lib.IntN.{ℤ, pos, negsuc, negℤ, natAbs, _+ℤ_, _-ℤ_, _*ℤ_}
-use lib.Signed.{quotZ}
+use Rattle.whole.proofs.Base.{_≡_, refl, ap, Bool, true, false, cond, List, ℕ, zero, suc, _+_, _-_, _*_, _/_, _≤_, le-refl, le-trans, mul-le-mul, div-le-self, arith, T, ltb, leb, leb→le, ltb-true, ℤ, pos, negsuc, negℤ, natAbs, _+ℤ_, _-ℤ_, _*ℤ_, quotZ}
 use Rattle.whole.specs.Range.{Near, Within}
 
 -- ---- magnitudes

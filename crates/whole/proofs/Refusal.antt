@@ -1,6 +1,5 @@
 -- The two laws of `unlessRefused`, for the two branches of a test `n == 0`. A caller may write `_` for `refuse` and `next` where its goal shows them.
-use mathlib.Core.Path.{_≡_, refl}
-use Prim.Native.Nat.{ℕ, zero, suc}
+use Rattle.whole.proofs.Base.{_≡_, refl, ℕ, zero, suc}
 use Rattle.whole.specs.Refusal.{unlessRefused}
 
 pub passed : {A : Type 0} {n : ℕ} (refuse : ℕ → A) (next : A) → n ≡ 0 → unlessRefused n refuse next ≡ next

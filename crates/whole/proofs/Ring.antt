@@ -2,9 +2,8 @@
 --
 -- `lib.IntN` has the laws of sums, and what a step up or down does to a product (`sucℤ-*ℤ`, `predℤ-*ℤ`). The laws here go by such steps: the private `ind` is the
 -- induction from 0 both ways. They are what proofs/Polynomial.antt is built on. Anywhere else an identity is one line by `law` (proofs/Law.antt), and no chain of these.
-use mathlib.Core.Path.{_≡_, sym, _∙_, ap, ap₂}
-use Prim.Native.Nat.{zero, suc}
-use lib.IntN.{ℤ, pos, negsuc, sucℤ, predℤ, negℤ, _+ℤ_, _*ℤ_, _-ℤ_, +ℤ-idl, +ℤ-idr, +ℤ-assoc, +ℤ-comm, +ℤ-invr, +ℤ-invl, zero-*ℤ, sucℤ-*ℤ, predℤ-*ℤ, *ℤ-comm, sucℤ-+ℤ, predℤ-+ℤ}
+use Rattle.whole.proofs.Base.{_≡_, sym, _∙_, ap, ap₂, zero, suc, ℤ, pos, negsuc, negℤ, _+ℤ_, _*ℤ_, _-ℤ_, +ℤ-idl, +ℤ-idr, +ℤ-assoc, +ℤ-comm, +ℤ-invl, zero-*ℤ, *ℤ-comm}
+use lib.IntN.{sucℤ, predℤ, +ℤ-invr, sucℤ-*ℤ, predℤ-*ℤ, sucℤ-+ℤ, predℤ-+ℤ}
 
 -- from 0, up and down
 ind : (P : ℤ → Type 0) → P (pos zero) → ((k : ℤ) → P k → P (sucℤ k)) → ((k : ℤ) → P k → P (predℤ k)) → (k : ℤ) → P k

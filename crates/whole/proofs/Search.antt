@@ -8,13 +8,7 @@
 -- What others name: `linear`, `quadratic` and `&`, which say what products of facts to search among: `from linear & h 1 ⊠ h 2`. All else serves `find`. It is public,
 -- and each function an `abbrev`, since it runs wherever a claim is checked. For that reason the gcd of specs/Divisor.antt is not used for rows: it is shut in other
 -- modules, so that contracts which name it stay short, and would not compute there.
-use mathlib.Core.Bool.{Bool, true, false, cond}
-use mathlib.Core.List.{List, [], _∷_, _++_}
-use mathlib.Core.Option.{Option, none, some}
-use Prim.Native.Nat.{ℕ, zero, suc, _%_}
-use lib.Dec.{T, ltb, eqb}
-use lib.IntN.{ℤ, pos, negsuc, negℤ, natAbs, _+ℤ_, _*ℤ_}
-use lib.Signed.{quotZ}
+use Rattle.whole.proofs.Base.{Bool, true, false, cond, List, [], _∷_, _++_, Option, none, some, ℕ, zero, suc, _%_, T, ltb, eqb, ℤ, pos, negsuc, negℤ, natAbs, _+ℤ_, _*ℤ_, quotZ}
 use Rattle.whole.proofs.Polynomial.{con, H, C, X, nth, norm, add, neg, scale, isZ, and, and-l, and-r}
 use Rattle.whole.proofs.Order.{≤-antisym}
 use Rattle.whole.proofs.Sign.{Sgn, nn, ps, zr}

@@ -1,11 +1,6 @@
 -- What is known of the sign of a value: not negative, positive, or 0; and of sums and products of such values. proofs/Certificate.antt is built on it.
-use mathlib.Core.Path.{_≡_, sym, _∙_, ap, subst}
-use mathlib.Core.Bool.{Bool, not}
-use Prim.Native.Nat.{ℕ, zero-le, zero, suc, _<_}
-use native.Mathlib.Omega.{arith}
-use lib.Dec.{T, lt→ltb, le→leb, T-not, eqb-refl}
-use lib.IntN.{ℤ, pos, _+ℤ_, _*ℤ_, +ℤ-comm, +ℤ-idl, +ℤ-idr, *ℤ-zero, *ℤ-comm}
-use lib.Signed.{leZ, ltZ, _≤ℤ_, _<ℤ_, leZ-yes, ltZ-yes, clashℤ}
+use Rattle.whole.proofs.Base.{_≡_, sym, _∙_, ap, subst, Bool, not, ℕ, zero-le, zero, suc, _<_, arith, T, lt→ltb, le→leb, T-not, ℤ, pos, _+ℤ_, _*ℤ_, +ℤ-comm, +ℤ-idl, +ℤ-idr, *ℤ-zero, *ℤ-comm, leZ, ltZ, _≤ℤ_, _<ℤ_, leZ-yes, ltZ-yes, clashℤ}
+use lib.Dec.{eqb-refl}
 use Rattle.whole.proofs.Polynomial.{isZ}
 use Rattle.whole.proofs.Order.{nn-add, nn-mul, ps-add, ps-mul, ≤-of-<}
 

@@ -3,12 +3,7 @@
 -- A branch of a proof hands out the equation; `lt-true`, `lt-false`, `le-true`, `le-false` read it. A contract that is an equation wants it made: `true-lt`, `false-lt`,
 -- `true-le`, `false-le`. From e : ltZ a (pos 0) ≡ false, the branch where `a < 0` was not taken, `lt-false a (pos 0) e : pos 0 ≤ℤ a`.
 -- Of any test: `both-true` and `true-both` for "and"; `false-by` and `true-by` where it can't come out the other way. Private: `yes`, `no`, `is-true`, `not-le`.
-use mathlib.Core.Path.{_≡_, refl, sym, subst}
-use mathlib.Core.Bool.{Bool, true, false, not, _&&_, false≢true}
-use lib.Dec.{T, T-not}
-use lib.IntN.{ℤ}
-use lib.Signed.{ltZ, leZ, _≤ℤ_, _<ℤ_, leZ-yes, ltZ-yes, ltZ-no, clashℤ}
-use mathlib.Core.Logic.{inl, inr}
+use Rattle.whole.proofs.Base.{_≡_, refl, sym, subst, Bool, true, false, not, _&&_, false≢true, T, T-not, ℤ, ltZ, leZ, _≤ℤ_, _<ℤ_, leZ-yes, ltZ-yes, ltZ-no, clashℤ, inl, inr}
 use Rattle.whole.proofs.Order.{<-or-≥}
 
 -- ---- any test

@@ -7,11 +7,7 @@
 -- `never` for a contradiction. The 2 counts the variables. `tt` stands for the test, which has to compute to true. The check compares the two halves, so they can't
 -- differ. The signs come by one `use` line, below; from another crate it is
 -- `use Rattle.whole.proofs.Laws.{..}`. Nothing here is used by other files, and all names are private: it is here to be read, and to be checked.
-use mathlib.Core.Path.{_≡_, refl}
-use mathlib.Core.List.{[], _∷_}
-use Prim.Native.Nat.{ℕ, _+_, _*_, _≤_}
-use lib.IntN.{ℤ, pos, negℤ, _+ℤ_, _-ℤ_, _*ℤ_}
-use lib.Signed.{_≤ℤ_, _<ℤ_}
+use Rattle.whole.proofs.Base.{_≡_, refl, [], _∷_, ℕ, _+_, _*_, _≤_, ℤ, pos, negℤ, _+ℤ_, _-ℤ_, _*ℤ_, _≤ℤ_, _<ℤ_}
 use Rattle.whole.specs.Worked.{determinant, det}
 use Rattle.whole.proofs.Laws.{E, _⊕_, _⊖_, _⊗_, ⊝_, #, _≗_, law, Ident, by-ring, left-over, term, _≦_, _≺_, _≈_, never, h, num, sq, dec, _⊞_, _⊠_, _⊡_, linear, quadratic, _&_, _⇒_, _by_, _from_, claim, Fact, fact, found, ps-mul, tri, less, same, more, up≤, down≤, down≡, nat}
 

@@ -1,12 +1,6 @@
 -- Tests of equality, of whole numbers, of lists and of held digits, and that each says so.
-use mathlib.Core.Path.{_≡_, refl, ap, ap₂}
-use mathlib.Core.Bool.{Bool, true, false, _&&_, false≢true}
-use mathlib.Core.List.{List, [], _∷_}
-use borrow.Author.Tests.{eqb-true}
-use lib.Dec.{eqb}
-use lib.IntN.{ℤ, pos, negsuc}
-use Rattle.steps.specs.Types.{Held, Nothing, Digit}
-use Rattle.whole.proofs.Laws.{both-true}
+use Rattle.whole.proofs.Laws.{_≡_, refl, ap, ap₂, Bool, true, false, _&&_, false≢true, List, [], _∷_, eqb-true, eqb, ℤ, pos, negsuc, both-true}
+use Rattle.steps.proofs.Laws.{Held, Nothing, Digit}
 
 abbrev pub sameNumber? : ℤ → ℤ → Bool
 sameNumber? (pos a) (pos b) = eqb a b

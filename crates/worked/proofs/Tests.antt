@@ -1,26 +1,11 @@
 -- The test of a claim, which computes, and the law that a claim which passes its test holds: one law for each of the five kinds.
-use mathlib.Core.Path.{_≡_, refl}
-use mathlib.Core.Bool.{Bool, true, not, false≢true}
-use mathlib.Core.List.{List, [], _∷_}
-use Prim.Native.Nat.{ℕ}
-use borrow.Author.Tests.{eqb-true, not-true}
-use lib.Dec.{eqb}
-use lib.ListN.{length, take}
-use lib.IntN.{ℤ, pos}
-use lib.Signed.{ltZ}
-use Rattle.whole.proofs.Laws.{lt-true}
-use Rattle.plane.specs.Plane.{det, left, right, Interval}
-use Rattle.inclusion.specs.Inclusion.{closed?, included?}
-use Rattle.inclusion.proofs.Laws.{included-says, not-included-says, closed-says}
-use Rattle.admission.specs.Admission.{refusalNumber}
-use Rattle.digits.specs.BuiltIn.{systemOf}
-use Rattle.admission.proofs.Laws.{admitted-says}
-use Rattle.steps.specs.Types.{Nothing}
-use Rattle.unary.specs.Types.{Opening, Opens, OutOfRange, NotAbove, Start}
-use Rattle.steps.specs.State.{endNumber}
-use Rattle.unary.specs.Opening.{openingNumber, openOf}
-use Rattle.unary.specs.Run.{Ran}
-use Rattle.unary.proofs.Laws.{opens}
+use Rattle.whole.proofs.Laws.{_≡_, refl, Bool, true, not, false≢true, List, [], _∷_, ℕ, eqb-true, not-true, eqb, length, take, ℤ, pos, ltZ, lt-true}
+use Rattle.plane.proofs.Laws.{det, left, right, Interval}
+use Rattle.inclusion.proofs.Laws.{closed?, included?, included-says, not-included-says, closed-says}
+use Rattle.digits.proofs.Laws.{systemOf}
+use Rattle.admission.proofs.Laws.{refusalNumber, admitted-says}
+use Rattle.steps.proofs.Laws.{Nothing, endNumber}
+use Rattle.unary.proofs.Laws.{Opening, Opens, OutOfRange, NotAbove, Start, openingNumber, openOf, Ran, opens}
 use Rattle.worked.specs.Claims.{Job, Ending, judgedOf, ranOf, IsIncluded, EndsOnly, IsOpened, IsJudged, IsEnded, Claim, included, ends-only, opening, judged, ended, Says}
 use Rattle.worked.proofs.Same.{sameNumber?, same-number, sameList?, same-list, sameHeld?, same-held, all?, each}
 

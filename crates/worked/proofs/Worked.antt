@@ -1,25 +1,14 @@
 -- Every row of the table of worked examples holds. The checker runs the test of each row, once, over the whole table (`computed`); one law turns a table that passes
 -- into what its rows say (`passed`).
-use mathlib.Core.Path.{_≡_, refl, sym, subst}
-use mathlib.Core.Bool.{Bool, true, _&&_}
-use mathlib.Core.List.{List, [], _∷_}
+use Rattle.whole.proofs.Laws.{_≡_, refl, sym, subst, Bool, true, _&&_, List, [], _∷_, gcdBy, gcd, gcd4, first, both-true, unlessRefused}
+use Rattle.plane.proofs.Laws.{apply, determinantOf, pseudoinverseOf, multiplyOf, imageOf, cancelOf, within?}
+use Rattle.inclusion.proofs.Laws.{closed?, same?, included?}
+use Rattle.digits.proofs.Laws.{fourAt, transformationAt, intervalAt, systemOf}
+use Rattle.admission.proofs.Laws.{rowVerdict, rowsVerdict, admissionOf}
+use Rattle.runs.proofs.Laws.{follow, runBy, run, judgedRun}
+use Rattle.steps.proofs.Laws.{fittingOf}
+use Rattle.unary.proofs.Laws.{state?, refusalOf, openOf, courseOf, runOf}
 use mathlib.Core.Logic.{⊎-elim}
-use Rattle.whole.specs.Divisor.{gcdBy, gcd, gcd4}
-use Rattle.plane.specs.Plane.{apply, determinantOf, pseudoinverseOf, multiplyOf, imageOf, cancelOf}
-use Rattle.inclusion.specs.Inclusion.{closed?, same?, included?}
-use Rattle.whole.specs.First.{first}
-use Rattle.digits.specs.System.{fourAt, transformationAt, intervalAt}
-use Rattle.plane.specs.Tests.{within?}
-use Rattle.admission.specs.Admission.{rowVerdict, rowsVerdict, admissionOf}
-use Rattle.digits.specs.BuiltIn.{systemOf}
-use Rattle.whole.proofs.Laws.{both-true}
-use Rattle.unary.specs.Judging.{state?, refusalOf}
-use Rattle.unary.specs.Opening.{openOf}
-use Rattle.whole.specs.Refusal.{unlessRefused}
-use Rattle.runs.specs.Plan.{follow}
-use Rattle.runs.specs.Run.{runBy, run, judgedRun}
-use Rattle.steps.specs.Step.{fittingOf}
-use Rattle.unary.specs.Run.{courseOf, runOf}
 use Rattle.worked.specs.Claims.{Claim, Says, Member}
 use Rattle.worked.specs.Table.{table}
 use Rattle.worked.proofs.Tests.{passes?, holds}

@@ -1,6 +1,5 @@
 -- `admission::admit` meets its contract: the judgement of its rows, which are 128 numbers.
-use borrow.Author.Needs.{needs}
-use mathlib.Core.Path.{sym}
+use Rattle.whole.proofs.Laws.{needs, sym}
 use Rattle.digits.proofs.Laws.{stored-128}
 use Rattle.admission.proofs.admit.Statement.{statement}
 use Rattle.admission.proofs.admit.Tie as tie

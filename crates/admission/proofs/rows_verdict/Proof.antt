@@ -1,17 +1,6 @@
 -- `admission::rows_verdict` meets its contract: a search for the first row that is refused; where there is none, every interval is small enough for the cover test.
-use borrow.Author.Needs.{needs}
-use mathlib.Core.Path.{_≡_, sym, ap, ap₂, _∙_}
-use mathlib.Core.Bool.{Bool, not, cond}
-use mathlib.Core.Option.{none}
-use Prim.Native.Nat.{ℕ, _-_}
-use native.Mathlib.Omega.{arith}
-use borrow.Author.Tests.{eq-eqb, ne-eqb}
-use denote.Ref.{now}
-use Rattle.whole.specs.First.{first}
-use Rattle.whole.proofs.Laws.{Standing, begins, misses, hits, ends, first-none}
-use Rattle.digits.specs.Types.{System}
-use Rattle.digits.specs.System.{lent, DigitThere}
-use Rattle.digits.proofs.Laws.{stored-there}
+use Rattle.whole.proofs.Laws.{needs, _≡_, sym, ap, ap₂, _∙_, Bool, not, cond, none, ℕ, _-_, arith, eq-eqb, ne-eqb, now, first, Standing, begins, misses, hits, ends, first-none}
+use Rattle.digits.proofs.Laws.{System, lent, DigitThere, stored-there}
 use Rattle.admission.specs.Types.{Admitted, Uncovered}
 use Rattle.admission.specs.Admission.{refusalNumber, refused?, rowVerdict, verdictOfRow, firstVerdict, rowsVerdict}
 use Rattle.admission.proofs.CoverSays.{small}
@@ -73,7 +62,6 @@ by-cover c = sym (ap (firstVerdict (of (c .before .before .before))) (none-left 
 
 pub rows-verdict-spec : {M : Type 1} → statement M
 rows-verdict-spec = tie.close (tie.spec
-    Inv-loop μ-loop (λ c. begins)
-    (λ c κs. there c) (λ c κs. there (c .before)) (λ c κs. search needs) (λ c κs. search needs)
-    returns (λ c. search needs) (λ c. search needs) loop-again covered-requires
-    (λ c. ap (λ t. cond t Admitted Uncovered) (sym (c .if2 .taken)) ∙ by-cover (c .before)) (λ c. ap (λ t. cond t Admitted Uncovered) (sym (c .if2 .left)) ∙ by-cover (c .before)))
+    Inv-loop μ-loop (λ c. begins) (λ c κs. there c) (λ c κs. there (c .before)) (λ c κs. search needs) (λ c κs. search needs) returns (λ c. search needs)
+    (λ c. search needs) loop-again covered-requires (λ c. ap (λ t. cond t Admitted Uncovered) (sym (c .if2 .taken)) ∙ by-cover (c .before))
+    (λ c. ap (λ t. cond t Admitted Uncovered) (sym (c .if2 .left)) ∙ by-cover (c .before)))

@@ -1,7 +1,5 @@
 -- `digits::four_at` meets its contract: each number is read back as it was handed out.
-use borrow.Author.Needs.{needs}
-use mathlib.Core.Path.{_∙_}
-use Rattle.whole.proofs.Laws.{ok-back}
+use Rattle.whole.proofs.Laws.{needs, _∙_, ok-back}
 use Rattle.plane.proofs.Laws.{four-equal}
 use Rattle.digits.specs.System.{fourAt}
 use Rattle.digits.proofs.four_at.Statement.{statement}

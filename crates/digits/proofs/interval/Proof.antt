@@ -1,5 +1,5 @@
 -- `digits::interval` meets its contract: the four numbers behind the transformation.
-use borrow.Author.Needs.{needs}
+use Rattle.whole.proofs.Laws.{needs}
 use Rattle.digits.specs.System.{intervalAt}
 use Rattle.digits.proofs.interval.Statement.{statement}
 use Rattle.digits.proofs.interval.Tie as tie

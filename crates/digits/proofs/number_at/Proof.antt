@@ -1,10 +1,7 @@
 -- `digits::number_at` meets its contract: an i64 holds every i16.
-use borrow.Author.Needs.{needs}
-use denote.Ref.{now}
+use Rattle.whole.proofs.Laws.{needs, now, at, element-16, widen-fits, widen-back}
 use mir.Syntax.{w16}
 use mir.Val.{SFits}
-use Rattle.whole.specs.Range.{at}
-use Rattle.whole.proofs.Laws.{element-16, widen-fits, widen-back}
 use Rattle.digits.proofs.number_at.Statement.{statement}
 use Rattle.digits.proofs.number_at.Tie as tie
 

@@ -1,5 +1,5 @@
 -- `digits::transformation` meets its contract: the first four numbers of the row.
-use borrow.Author.Needs.{needs}
+use Rattle.whole.proofs.Laws.{needs}
 use Rattle.digits.specs.System.{transformationAt}
 use Rattle.digits.proofs.transformation.Statement.{statement}
 use Rattle.digits.proofs.transformation.Tie as tie

@@ -1,20 +1,10 @@
 -- `inclusion::included` meets its contract: document 01's test is one on the signs of four determinants (proofs/Signs.antt), and the words that hold them tell these signs.
-use borrow.Author.Needs.{needs}
-use borrow.Author.Tests.{not-true, not-false, ne-eqb}
-use mathlib.Core.Path.{_≡_, refl, sym, _∙_, ap, subst}
-use mathlib.Core.Bool.{Bool, true, false, not, _&&_, _||_}
-use mathlib.Core.Logic.{inl, inr}
-use Prim.Native.Nat.{ℕ}
-use lib.Dec.{T, eqb, eqb→eq}
-use lib.IntN.{ℤ, pos, natAbs, _*ℤ_}
-use lib.Signed.{leZ}
+use Rattle.whole.proofs.Laws.{needs, not-true, not-false, ne-eqb, _≡_, refl, sym, _∙_, ap, subst, Bool, true, false, not, _&&_, _||_, inl, inr, ℕ, T, eqb, eqb→eq, ℤ, pos, natAbs, _*ℤ_, leZ, at, natAbs-zero, back, near-back, back-of}
+use Rattle.plane.proofs.Laws.{held, Fits}
 use mir.Syntax.{w64}
 use mir.Val.{ofZ, toZ}
-use Rattle.whole.specs.Range.{at}
-use Rattle.whole.proofs.Laws.{natAbs-zero, back, near-back, back-of}
 use Rattle.inclusion.specs.Inclusion.{included?, sidesOf}
 use Rattle.inclusion.proofs.Signs.{agree, included-sides, verdict}
-use Rattle.plane.proofs.Laws.{held, Fits}
 use Rattle.inclusion.proofs.included.Statement.{statement}
 use Rattle.inclusion.proofs.included.Tie as tie
 
@@ -137,9 +127,7 @@ returns-5 c = rw (unequal (c .before .before), sym (c .before .opposite3 .ensure
 
 pub included-spec : {M : Type 1} → statement M
 included-spec = tie.close (tie.spec
-    (λ c. search needs) (λ c. search needs)
-    (λ c κs. let p = c .before .before .pre in (near-back (p .0 .n0) tt, near-back (p .0 .n1) tt, p .1))
+    (λ c. search needs) (λ c. search needs) (λ c κs. let p = c .before .before .pre in (near-back (p .0 .n0) tt, near-back (p .0 .n1) tt, p .1))
     (λ c. search needs) (λ c. search needs) (λ c κs. search needs) returns (λ c. search needs) (λ c. search needs)
-    (λ c κs. let p = start (to-left (c .before .before)) .pre in (near-back (p .0 .n2) tt, near-back (p .0 .n3) tt, p .1))
-    (λ c. search needs) (λ c. search needs) (λ c κs. search needs) returns-2
-    returns-3 (λ c κs. search needs) (λ c κs. search needs) returns-4 returns-5)
+    (λ c κs. let p = start (to-left (c .before .before)) .pre in (near-back (p .0 .n2) tt, near-back (p .0 .n3) tt, p .1)) (λ c. search needs)
+    (λ c. search needs) (λ c κs. search needs) returns-2 returns-3 (λ c κs. search needs) (λ c κs. search needs) returns-4 returns-5)

@@ -1,9 +1,6 @@
 -- `inclusion::opposite` meets its contract: the sign of a product follows from the signs of its factors.
-use mathlib.Core.Path.{_∙_, ap}
-use lib.IntN.{ℤ, pos}
-use lib.Signed.{leZ}
+use Rattle.whole.proofs.Laws.{_∙_, ap, ℤ, pos, leZ, lt-true, lt-false}
 use mir.Facts.{toZ-ofZ}
-use Rattle.whole.proofs.Laws.{lt-true, lt-false}
 use Rattle.inclusion.proofs.Signs.{below-times, above-times, nought-times}
 use Rattle.inclusion.proofs.opposite.Statement.{statement}
 use Rattle.inclusion.proofs.opposite.Tie as tie

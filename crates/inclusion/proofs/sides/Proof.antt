@@ -1,6 +1,5 @@
 -- `inclusion::sides` meets its contract: each of the two is what `determinant` ensures of the end of I and an end of J, which are read back as they are.
-use borrow.Author.Needs.{needs}
-use mathlib.Core.List.{[], _∷_}
+use Rattle.whole.proofs.Laws.{needs, [], _∷_}
 use Rattle.plane.proofs.Laws.{determinant-asks, determinant-held}
 use Rattle.inclusion.specs.Inclusion.{sidesOf}
 use Rattle.inclusion.proofs.sides.Statement.{statement}
@@ -24,8 +23,6 @@ returns c =
 
 pub sides-spec : {M : Type 1} → statement M
 sides-spec = tie.close (tie.spec
+    (λ c. search needs) (λ c. search needs) (λ c κs. let p = left-read c .pre in determinant-asks tt tt (p .0) (p .1) (p .2 .n0) (p .2 .n1) tt)
     (λ c. search needs) (λ c. search needs)
-    (λ c κs. let p = left-read c .pre in determinant-asks tt tt (p .0) (p .1) (p .2 .n0) (p .2 .n1) tt)
-    (λ c. search needs) (λ c. search needs)
-    (λ c κs. let p = left-read (right-read c .before) .pre in determinant-asks tt tt (p .0) (p .1) (p .2 .n2) (p .2 .n3) tt)
-    returns)
+    (λ c κs. let p = left-read (right-read c .before) .pre in determinant-asks tt tt (p .0) (p .1) (p .2 .n2) (p .2 .n3) tt) returns)

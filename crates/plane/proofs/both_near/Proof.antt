@@ -1,10 +1,5 @@
 -- `plane::both_near` meets its contract: what `magnitude` hands is how far a number lies from 0, and the code asks the two tests in their order.
-use borrow.Author.Needs.{needs}
-use borrow.Author.Tests.{lt-leb, le-leb}
-use mathlib.Core.Path.{_≡_, sym, _∙_, ap}
-use Prim.Native.Nat.{ℕ}
-use lib.Dec.{leb}
-use lib.IntN.{natAbs}
+use Rattle.whole.proofs.Laws.{needs, lt-leb, le-leb, _≡_, sym, _∙_, ap, ℕ, leb, natAbs}
 use mir.Facts.{toZ-ofZ}
 use Rattle.plane.proofs.both_near.Statement.{statement}
 use Rattle.plane.proofs.both_near.Tie as tie

@@ -1,16 +1,5 @@
 -- `plane::cancel` meets its contract: the greatest common divisor is above 0, fits, and divides each entry; and where it is 1, the quotients are the entries.
-use borrow.Author.Needs.{needs}
-use mathlib.Core.Path.{_≡_, sym, _∙_, ap}
-use mathlib.Core.List.{List}
-use Prim.Native.Nat.{ℕ, _<_}
-use native.Mathlib.Nat.{one-dvd}
-use native.Mathlib.Omega.{arith}
-use lib.ListN.{length}
-use lib.IntN.{ℤ, pos, natAbs}
-use lib.Signed.{quotZ}
-use Rattle.whole.specs.Range.{at, Within}
-use Rattle.whole.specs.Divisor.{gcd4, divided, Divides4}
-use Rattle.whole.proofs.Laws.{_⊗_, #, _≗_, law, gcd4-divides, quot-exact}
+use Rattle.whole.proofs.Laws.{needs, _≡_, sym, _∙_, ap, List, ℕ, _<_, one-dvd, arith, length, ℤ, pos, natAbs, quotZ, at, Within, gcd4, divided, Divides4, _⊗_, #, _≗_, law, gcd4-divides, quot-exact}
 use Rattle.plane.specs.Plane.{cancelOf}
 use Rattle.plane.proofs.Identities.{four, four-equal}
 use Rattle.plane.proofs.Ranges.{gcd4-within}
@@ -33,7 +22,5 @@ returns-2 c = let d = c .before .before in c .quotients .ensures ∙ ap (divided
 
 pub cancel-spec : {M : Type 1} → statement M
 cancel-spec = tie.close (tie.spec
-    (λ c κs. search needs)
-    (λ c. kept (c .before .before .args .m) (omega arith) (c .if1 .taken) (c .before .divisor .ensures))
-    (λ c κs. let d = c .before in asked (d .before .args .m) (d .before .pre) (d .divisor .ensures))
-    returns-2)
+    (λ c κs. search needs) (λ c. kept (c .before .before .args .m) (omega arith) (c .if1 .taken) (c .before .divisor .ensures))
+    (λ c κs. let d = c .before in asked (d .before .args .m) (d .before .pre) (d .divisor .ensures)) returns-2)

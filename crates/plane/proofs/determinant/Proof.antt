@@ -1,14 +1,8 @@
 -- `plane::determinant` meets its contract: each product lies within a·b, and their difference within 2·a·b, which fits.
-use borrow.Author.Needs.{needs}
-use mathlib.Core.List.{List}
-use Prim.Native.Nat.{_+_, _*_, _^_}
-use native.Mathlib.Omega.{arith}
-use lib.Dec.{T, ltb, ltb→lt, lt→ltb}
-use lib.IntN.{ℤ}
-use Rattle.whole.proofs.Laws.{mul-ok, mul-stands, sub-ok, sub-stands}
+use Rattle.whole.proofs.Laws.{needs, List, _+_, _*_, _^_, arith, T, ltb, ltb→lt, lt→ltb, ℤ, mul-ok, mul-stands, sub-ok, sub-stands}
 use Rattle.plane.specs.Fits.{Products}
 use Rattle.plane.specs.Plane.{determinantOf}
-use Rattle.plane.proofs.Words.{read}
+use Rattle.plane.proofs.MachineNumbers.{read}
 use Rattle.plane.proofs.determinant.Statement.{statement}
 use Rattle.plane.proofs.determinant.Tie as tie
 

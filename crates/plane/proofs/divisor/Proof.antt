@@ -1,14 +1,8 @@
 -- `plane::divisor` meets its contract: a word read from the array is read back as it is, and the rest is what the calls ensure. Where the first two entries have no common
 -- divisor but 1, the four have none either.
-use borrow.Author.Needs.{needs}
-use mathlib.Core.Path.{_≡_, sym, _∙_, ap, ap₂}
-use Prim.Native.Nat.{ℕ}
-use native.Mathlib.Nat.{one-dvd, dvd-antisymm}
-use lib.IntN.{ℤ, natAbs}
-use Rattle.whole.specs.Range.{at}
-use Rattle.whole.specs.Divisor.{gcd, gcd4}
-use Rattle.whole.proofs.Laws.{gcd-divides-left, back-of}
-use Rattle.plane.proofs.Words.{held, Fits}
+use Rattle.whole.proofs.Laws.{needs, _≡_, sym, _∙_, ap, ap₂, ℕ, one-dvd, ℤ, natAbs, at, gcd, gcd4, gcd-divides-left, back-of}
+use native.Mathlib.Nat.{dvd-antisymm}
+use Rattle.plane.proofs.MachineNumbers.{held, Fits}
 use Rattle.plane.proofs.divisor.Statement.{statement}
 use Rattle.plane.proofs.divisor.Tie as tie
 

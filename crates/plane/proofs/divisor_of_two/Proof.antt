@@ -1,9 +1,6 @@
 -- `plane::divisor_of_two` meets its contract: what `magnitude` ensures of both numbers, and `gcd` of those.
-use borrow.Author.Needs.{needs}
-use mathlib.Core.Path.{_∙_, ap, ap₂}
-use lib.IntN.{natAbs}
+use Rattle.whole.proofs.Laws.{needs, _∙_, ap, ap₂, natAbs, gcd}
 use mir.Facts.{toZ-ofZ}
-use Rattle.whole.specs.Divisor.{gcd}
 use Rattle.plane.proofs.divisor_of_two.Statement.{statement}
 use Rattle.plane.proofs.divisor_of_two.Tie as tie
 

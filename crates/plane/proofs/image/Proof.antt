@@ -1,10 +1,5 @@
 -- `plane::image` meets its contract: the product's columns are the images of the ends, and written as rows they are X·W.
-use borrow.Author.Needs.{needs}
-use mathlib.Core.Path.{_≡_, _∙_, ap}
-use mathlib.Core.List.{List, [], _∷_}
-use lib.IntN.{ℤ}
-use Rattle.whole.specs.Range.{at}
-use Rattle.whole.proofs.Laws.{within-le, back, near-back, ok-back}
+use Rattle.whole.proofs.Laws.{needs, _≡_, _∙_, ap, List, [], _∷_, ℤ, at, within-le, back, near-back, ok-back}
 use Rattle.plane.specs.Plane.{multiplyOf, apply, imageOf}
 use Rattle.plane.proofs.Identities.{four-equal}
 use Rattle.plane.proofs.image.Statement.{statement}

@@ -1,11 +1,7 @@
 -- `plane::multiply` meets its contract: each entry is what `dot` ensures of four entries, which are read back as they are.
-use borrow.Author.Needs.{needs}
-use mathlib.Core.Path.{_≡_, _∙_}
-use lib.IntN.{ℤ, _+ℤ_, _*ℤ_}
-use Rattle.whole.specs.Range.{Near}
-use Rattle.whole.proofs.Laws.{back, near-back, ok-back}
+use Rattle.whole.proofs.Laws.{needs, _≡_, _∙_, ℤ, _+ℤ_, _*ℤ_, Near, back, near-back, ok-back}
 use Rattle.plane.specs.Plane.{multiplyOf}
-use Rattle.plane.proofs.Words.{held, Fits}
+use Rattle.plane.proofs.MachineNumbers.{held, Fits}
 use Rattle.plane.proofs.Identities.{four-equal}
 use Rattle.plane.proofs.multiply.Statement.{statement}
 use Rattle.plane.proofs.multiply.Tie as tie
@@ -33,10 +29,8 @@ returns c =
 
 pub multiply-spec : {M : Type 1} → statement M
 multiply-spec = tie.close (tie.spec
-    (λ c. search needs) (λ c. search needs) (λ c. search needs) (λ c. search needs)
-    (λ c. search needs) (λ c. search needs) (λ c. search needs) (λ c. search needs)
-    (λ c κs. let p = start c .pre in asked (p .0 .n0) (p .0 .n1) (p .1 .n0) (p .1 .n2))
+    (λ c. search needs) (λ c. search needs) (λ c. search needs) (λ c. search needs) (λ c. search needs) (λ c. search needs) (λ c. search needs)
+    (λ c. search needs) (λ c κs. let p = start c .pre in asked (p .0 .n0) (p .0 .n1) (p .1 .n0) (p .1 .n2))
     (λ c κs. let p = start (c .before) .pre in asked (p .0 .n0) (p .0 .n1) (p .1 .n1) (p .1 .n3))
     (λ c κs. let p = start (c .before .before) .pre in asked (p .0 .n2) (p .0 .n3) (p .1 .n0) (p .1 .n2))
-    (λ c κs. let p = start (c .before .before .before) .pre in asked (p .0 .n2) (p .0 .n3) (p .1 .n1) (p .1 .n3))
-    returns)
+    (λ c κs. let p = start (c .before .before .before) .pre in asked (p .0 .n2) (p .0 .n3) (p .1 .n1) (p .1 .n3)) returns)

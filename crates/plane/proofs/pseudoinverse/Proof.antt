@@ -1,11 +1,7 @@
 -- `plane::pseudoinverse` meets its contract: a negation is worked out as 0 less the number, and fits.
-use borrow.Author.Needs.{needs}
-use mathlib.Core.Path.{_≡_, _∙_}
-use lib.IntN.{ℤ, pos, negℤ, _-ℤ_, +ℤ-idl}
-use Rattle.whole.specs.Range.{Near}
-use Rattle.whole.proofs.Laws.{literal, stored, back, sub-ok, sub-stands}
+use Rattle.whole.proofs.Laws.{needs, _≡_, _∙_, ℤ, pos, negℤ, _-ℤ_, +ℤ-idl, Near, literal, stored, back, sub-ok, sub-stands}
 use Rattle.plane.specs.Plane.{pseudoinverseOf}
-use Rattle.plane.proofs.Words.{held}
+use Rattle.plane.proofs.MachineNumbers.{held}
 use Rattle.plane.proofs.Identities.{four-equal}
 use Rattle.plane.proofs.pseudoinverse.Statement.{statement}
 use Rattle.plane.proofs.pseudoinverse.Tie as tie
@@ -19,6 +15,5 @@ returns c = let p = c .before .before .before .before .pre in four-equal (back (
 
 pub pseudoinverse-spec : {M : Type 1} → statement M
 pseudoinverse-spec = tie.close (tie.spec
-    (λ c. search needs) (λ c. search needs) (λ c. sub-ok (literal (pos 0)) (stored (c .before .before .pre .n1) tt) tt)
-    (λ c. search needs) (λ c. sub-ok (literal (pos 0)) (stored (c .before .before .before .pre .n2) tt) tt)
-    (λ c. search needs) returns)
+    (λ c. search needs) (λ c. search needs) (λ c. sub-ok (literal (pos 0)) (stored (c .before .before .pre .n1) tt) tt) (λ c. search needs)
+    (λ c. sub-ok (literal (pos 0)) (stored (c .before .before .before .pre .n2) tt) tt) (λ c. search needs) returns)

@@ -1,13 +1,6 @@
 -- `plane::quotients` meets its contract: each of the four is what `quotient` ensures of an entry, which is read back as it is.
-use borrow.Author.Needs.{needs}
-use mathlib.Core.Path.{_≡_, _∙_, ap}
-use Prim.Native.Nat.{ℕ, _<_, _∣_}
-use lib.IntN.{ℤ, pos, natAbs}
-use lib.Signed.{quotZ}
-use Rattle.whole.specs.Range.{at}
-use Rattle.whole.specs.Divisor.{Exact}
-use Rattle.whole.proofs.Laws.{ok-back, back-of}
-use Rattle.plane.proofs.Words.{held, Fits}
+use Rattle.whole.proofs.Laws.{needs, _≡_, _∙_, ap, ℕ, _<_, _∣_, ℤ, pos, natAbs, quotZ, at, Exact, ok-back, back-of}
+use Rattle.plane.proofs.MachineNumbers.{held, Fits}
 use Rattle.plane.proofs.Identities.{four-equal}
 use Rattle.plane.proofs.quotients.Statement.{statement}
 use Rattle.plane.proofs.quotients.Tie as tie

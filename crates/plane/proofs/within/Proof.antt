@@ -1,15 +1,7 @@
 -- `plane::within` meets its contract: the first two numbers, and then the last two.
-use borrow.Author.Needs.{needs}
-use borrow.Author.Tests.{not-true, not-false}
-use mathlib.Core.Path.{_≡_, sym, _∙_}
-use mathlib.Core.Bool.{Bool, _&&_}
-use Prim.Native.Nat.{ℕ}
-use lib.Dec.{leb}
-use lib.IntN.{ℤ, natAbs}
-use Rattle.whole.specs.Range.{at}
-use Rattle.whole.proofs.Laws.{back-of}
+use Rattle.whole.proofs.Laws.{needs, not-true, not-false, _≡_, sym, _∙_, Bool, _&&_, ℕ, leb, ℤ, natAbs, at, back-of}
 use Rattle.plane.specs.Tests.{within?}
-use Rattle.plane.proofs.Words.{held, Fits}
+use Rattle.plane.proofs.MachineNumbers.{held, Fits}
 use Rattle.plane.proofs.within.Statement.{statement}
 use Rattle.plane.proofs.within.Tie as tie
 
@@ -35,5 +27,4 @@ returns-2 c =
 
 pub within-spec : {M : Type 1} → statement M
 within-spec = tie.close (tie.spec
-    (λ c. search needs) (λ c. search needs) (λ c κs. search needs) returns
-    (λ c. search needs) (λ c. search needs) (λ c κs. search needs) returns-2)
+    (λ c. search needs) (λ c. search needs) (λ c κs. search needs) returns (λ c. search needs) (λ c. search needs) (λ c κs. search needs) returns-2)

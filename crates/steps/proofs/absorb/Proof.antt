@@ -1,13 +1,9 @@
 -- `steps::absorb` meets its contract: line 5 of a step.
-use borrow.Author.Needs.{needs}
-use mathlib.Core.Path.{sym, ap, subst, _∙_}
-use mathlib.Core.List.{List}
-use lib.IntN.{ℤ}
-use Rattle.runs.specs.Supply.{Supply}
-use Rattle.plane.specs.Plane.{cancelOf, multiplyOf}
-use Rattle.steps.specs.Types.{State, Absorb, Move}
+use Rattle.whole.proofs.Laws.{needs, sym, ap, subst, _∙_, List, ℤ}
+use Rattle.plane.proofs.Laws.{cancelOf, multiplyOf}
+use Rattle.steps.specs.Types.{Absorb}
 use Rattle.steps.specs.State.{absorbed}
-use Rattle.steps.specs.Made.{Follows, Factors}
+use Rattle.steps.specs.Made.{Factors}
 use Rattle.steps.proofs.Plans.{rangedMove, absorbs}
 use Rattle.steps.proofs.Factors.{absorb-factors}
 use Rattle.steps.proofs.absorb.Statement.{statement}

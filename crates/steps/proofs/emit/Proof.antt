@@ -1,21 +1,10 @@
 -- `steps::emit` meets its contract: lines 4 and 5 of a step. The image is formed once; a digit that fits is given out, and where none does the held one is absorbed.
-use borrow.Author.Needs.{needs}
-use mathlib.Core.Path.{_≡_, refl, sym, ap, subst, _∙_}
-use mathlib.Core.List.{List}
-use mathlib.Core.Option.{Option, none, some}
-use Prim.Native.Nat.{ℕ, _<_}
-use native.Mathlib.Omega.{arith}
-use lib.IntN.{ℤ}
-use denote.Ref.{now}
-use Rattle.whole.specs.Range.{Within}
-use Rattle.whole.proofs.Laws.{within-le}
-use Rattle.plane.specs.Plane.{imageOf}
-use Rattle.plane.proofs.Laws.{image-within}
-use Rattle.digits.specs.System.{lent}
-use Rattle.digits.proofs.Laws.{stored-there}
-use Rattle.steps.specs.Types.{At, Missing, Move, State}
+use Rattle.whole.proofs.Laws.{needs, _≡_, refl, sym, ap, subst, _∙_, List, Option, none, some, ℕ, arith, now, Within, within-le}
+use Rattle.plane.proofs.Laws.{imageOf, image-within}
+use Rattle.digits.proofs.Laws.{lent, stored-there}
+use Rattle.steps.specs.Types.{At, Missing, Move}
 use Rattle.steps.specs.Step.{Setting, setting, oneWord, fittingOf, chosen, heldPlan}
-use Rattle.steps.specs.Made.{Follows, fitting, WorksWith}
+use Rattle.steps.specs.Made.{Follows, fitting}
 use Rattle.steps.proofs.Kept.{chosen-below}
 use Rattle.steps.proofs.emit.Statement.{statement}
 use Rattle.steps.proofs.emit.Tie as tie

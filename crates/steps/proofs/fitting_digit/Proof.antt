@@ -1,14 +1,7 @@
 -- `steps::fitting_digit` meets its contract: "Some U_b includes X·W_held: let b be the smallest", a search for the first digit that fits.
-use borrow.Author.Needs.{needs}
-use mathlib.Core.Path.{_≡_, sym, ap, _∙_, subst}
-use Prim.Native.Nat.{_-_}
-use native.Mathlib.Omega.{arith}
-use denote.Ref.{now}
-use Rattle.whole.specs.Range.{Within}
-use Rattle.whole.proofs.Laws.{Standing, begins, misses, hits, ends}
-use Rattle.inclusion.specs.Inclusion.{included?}
-use Rattle.digits.specs.System.{lent}
-use Rattle.digits.proofs.Laws.{stored-there}
+use Rattle.whole.proofs.Laws.{needs, _≡_, sym, ap, _∙_, subst, _-_, arith, now, Within, Standing, begins, misses, hits, ends}
+use Rattle.inclusion.proofs.Laws.{included?}
+use Rattle.digits.proofs.Laws.{lent, stored-there}
 use Rattle.steps.specs.Step.{fits?, fittingOf}
 use Rattle.steps.specs.Made.{fitting}
 use Rattle.steps.proofs.fitting_digit.Statement.{statement}

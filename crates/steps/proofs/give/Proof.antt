@@ -1,14 +1,8 @@
 -- `steps::give` meets its contract: line 4 of a step, for the digit that fits.
-use borrow.Author.Needs.{needs}
-use mathlib.Core.Path.{_≡_, sym, ap, subst, _∙_}
-use mathlib.Core.List.{List}
-use lib.IntN.{ℤ}
-use denote.Ref.{now}
-use Rattle.whole.specs.Range.{Within}
-use Rattle.whole.proofs.Laws.{within-le}
-use Rattle.plane.specs.Plane.{cancelOf, multiplyOf, pseudoinverseOf}
-use Rattle.digits.specs.System.{transformationAt}
-use Rattle.steps.specs.Types.{State, Give}
+use Rattle.whole.proofs.Laws.{needs, _≡_, sym, ap, subst, _∙_, List, ℤ, now, Within, within-le}
+use Rattle.plane.proofs.Laws.{cancelOf, multiplyOf, pseudoinverseOf}
+use Rattle.digits.proofs.Laws.{transformationAt}
+use Rattle.steps.specs.Types.{Give}
 use Rattle.steps.specs.State.{given}
 use Rattle.steps.specs.Made.{Factors}
 use Rattle.steps.proofs.Plans.{rangedMove, gives, no-room}

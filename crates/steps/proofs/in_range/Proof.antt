@@ -1,6 +1,5 @@
 -- `steps::in_range` meets its contract: the range's test decides between the two moves.
-use borrow.Author.Needs.{needs}
-use mathlib.Core.Path.{sym, _∙_}
+use Rattle.whole.proofs.Laws.{needs, sym, _∙_}
 use Rattle.steps.proofs.in_range.Statement.{statement}
 use Rattle.steps.proofs.in_range.Tie as tie
 

@@ -1,8 +1,5 @@
 -- `steps::load` meets its contract: lines 1 to 3 of a step, by whether there is a byte and whether it is a digit.
-use borrow.Author.Needs.{needs}
-use borrow.Author.Tests.{lt-ltb, le-ltb}
-use native.Mathlib.Omega.{arith}
-use denote.Ref.{now}
+use Rattle.whole.proofs.Laws.{needs, lt-ltb, le-ltb, arith, now}
 use Rattle.steps.proofs.Plans.{load-ends, load-takes, load-refuses}
 use Rattle.steps.proofs.load.Statement.{statement}
 use Rattle.steps.proofs.load.Tie as tie

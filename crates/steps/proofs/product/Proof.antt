@@ -1,12 +1,6 @@
 -- `steps::product` meets its contract, by those of its two calls.
-use borrow.Author.Needs.{needs}
-use mathlib.Core.Path.{sym, ap, subst, _∙_}
-use mathlib.Core.List.{List}
-use Prim.Native.Nat.{_<_}
-use lib.IntN.{ℤ}
-use Rattle.whole.specs.Range.{Within}
-use Rattle.whole.specs.Divisor.{gcd4}
-use Rattle.plane.specs.Plane.{cancelOf}
+use Rattle.whole.proofs.Laws.{needs, sym, ap, subst, _∙_, List, _<_, ℤ, Within, gcd4}
+use Rattle.plane.proofs.Laws.{cancelOf}
 use Rattle.steps.proofs.product.Statement.{statement}
 use Rattle.steps.proofs.product.Tie as tie
 

@@ -1,17 +1,7 @@
 -- `steps::step` meets its contract, by the two cases of what is held.
-use borrow.Author.Needs.{needs}
-use mathlib.Core.Path.{_≡_, refl, sym, subst}
-use mathlib.Core.List.{List}
-use mathlib.Core.Option.{Option, none, some}
-use Prim.Native.Nat.{ℕ, _<_}
-use lib.ListN.{drop}
-use lib.IntN.{ℤ}
-use denote.Ref.{now}
-use Rattle.digits.specs.Types.{System}
-use Rattle.digits.specs.System.{lent}
-use Rattle.digits.proofs.Laws.{stored-there}
-use Rattle.runs.specs.Supply.{Supply}
-use Rattle.runs.specs.Plan.{Plan}
+use Rattle.whole.proofs.Laws.{needs, _≡_, refl, sym, subst, List, Option, none, some, ℕ, _<_, drop, ℤ, now}
+use Rattle.digits.proofs.Laws.{System, lent, stored-there}
+use Rattle.runs.proofs.Laws.{Supply, Plan}
 use Rattle.steps.specs.Types.{Held, Digit, State, Stop, Move}
 use Rattle.steps.specs.State.{HeldDigit}
 use Rattle.steps.specs.Step.{Setting, setting, oneWord, chosen, heldPlan, emitPlan, planBy}

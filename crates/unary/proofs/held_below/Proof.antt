@@ -1,6 +1,5 @@
 -- `unary::held_below` meets its contract, by the two cases of what is held.
-use borrow.Author.Needs.{needs}
-use mathlib.Core.Path.{sym, ap}
+use Rattle.whole.proofs.Laws.{needs, sym, ap}
 use Rattle.unary.specs.Judging.{heldDigit?}
 use Rattle.unary.proofs.held_below.Statement.{statement}
 use Rattle.unary.proofs.held_below.Tie as tie

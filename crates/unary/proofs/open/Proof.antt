@@ -1,12 +1,7 @@
 -- `unary::open` meets its contract: the answer of `opening_of` decides, and where it opens, the matrix is cancelled.
-use borrow.Author.Needs.{needs}
-use mathlib.Core.Path.{_≡_, refl, sym, ap, subst, _∙_}
-use native.Mathlib.Omega.{arith}
-use mathlib.Core.List.{List}
-use lib.IntN.{ℤ}
-use Rattle.whole.proofs.Laws.{within-le}
+use Rattle.whole.proofs.Laws.{needs, _≡_, refl, sym, ap, subst, _∙_, arith, List, ℤ, within-le}
 use Rattle.plane.proofs.Laws.{divisor-above}
-use Rattle.steps.specs.Types.{State}
+use Rattle.steps.proofs.Laws.{State}
 use Rattle.steps.specs.State.{opened as openedState}
 use Rattle.unary.specs.Types.{Opening, Opens, OutOfRange, NotAbove}
 use Rattle.unary.specs.Opening.{openingNumber, openingOf, OpeningCase, refusedStart, startOf, openOf}

@@ -1,10 +1,6 @@
 -- `unary::opening_of` meets its contract: "Opening: 6, then 11."
-use borrow.Author.Needs.{needs}
-use borrow.Author.Tests.{not-true, not-false}
-use mathlib.Core.Path.{_≡_, sym, _∙_}
-use mathlib.Core.Bool.{true}
-use Rattle.plane.specs.Tests.{within?}
-use Rattle.plane.proofs.Laws.{above, within-products, within-says}
+use Rattle.whole.proofs.Laws.{needs, not-true, not-false, _≡_, sym, _∙_, true}
+use Rattle.plane.proofs.Laws.{within?, above, within-products, within-says}
 use Rattle.unary.proofs.opening_of.Statement.{statement}
 use Rattle.unary.proofs.opening_of.Tie as tie
 

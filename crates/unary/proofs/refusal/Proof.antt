@@ -1,12 +1,7 @@
 -- `unary::refusal` meets its contract: the input system, the output system, then the state.
-use borrow.Author.Needs.{needs}
-use mathlib.Core.Path.{_≡_, sym, ap, _∙_}
-use mathlib.Core.Bool.{Bool, cond}
-use Prim.Native.Nat.{ℕ}
-use denote.Ref.{now}
-use Rattle.whole.proofs.Laws.{passed, decided}
-use Rattle.digits.specs.System.{lent}
-use Rattle.admission.specs.Admission.{refusalNumber, admissionOf}
+use Rattle.whole.proofs.Laws.{needs, _≡_, sym, ap, _∙_, Bool, cond, ℕ, now, passed, decided}
+use Rattle.digits.proofs.Laws.{lent}
+use Rattle.admission.proofs.Laws.{refusalNumber, admissionOf}
 use Rattle.unary.specs.Judging.{refusalOf}
 use Rattle.unary.proofs.refusal.Statement.{statement}
 use Rattle.unary.proofs.refusal.Tie as tie
@@ -52,15 +47,5 @@ returns-4 c =
     sym (passed _ _ (input-passes (e .before .before .before)) ∙ passed _ _ (output-passes e) ∙ ap twelve (sym (c .before .state-kept .ensures) ∙ c .if3 .left))
 
 pub refusal-spec : {M : Type 1} → statement M
-refusal-spec =
-    tie.close
-    (tie.spec
-    (λ c κs. search needs)
-    (λ c κs. search needs)
-    returns
-    (λ c κs. search needs)
-    (λ c κs. search needs)
-    returns-2
-    (λ c κs. search needs)
-    returns-3
-    returns-4)
+refusal-spec = tie.close (tie.spec
+    (λ c κs. search needs) (λ c κs. search needs) returns (λ c κs. search needs) (λ c κs. search needs) returns-2 (λ c κs. search needs) returns-3 returns-4)

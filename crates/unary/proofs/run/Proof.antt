@@ -1,6 +1,5 @@
 -- `unary::run` meets its contract: it lends the rows of its two systems, 128 numbers each.
-use borrow.Author.Needs.{needs}
-use mathlib.Core.Path.{sym}
+use Rattle.whole.proofs.Laws.{needs, sym}
 use Rattle.digits.proofs.Laws.{stored-128}
 use Rattle.unary.proofs.run.Statement.{statement}
 use Rattle.unary.proofs.run.Tie as tie

@@ -1,16 +1,9 @@
 -- `unary::run_judged` meets its contract. The invariant: the loop stands `Here` in the run, and what the steps rely on is kept. Each turn is one step, by its law in
 -- proofs/Turn.antt.
-use borrow.Author.Needs.{needs}
-use mathlib.Core.Path.{sym, ap}
-use mathlib.Core.List.{List}
-use Prim.Native.Nat.{ℕ}
-use native.Mathlib.Omega.{arith}
-use lib.IntN.{ℤ}
-use denote.Ref.{now}
-use Rattle.digits.specs.System.{lent}
+use Rattle.whole.proofs.Laws.{needs, sym, ap, List, ℕ, arith, ℤ, now}
+use Rattle.digits.proofs.Laws.{lent}
 use Rattle.runs.proofs.Laws.{here-first}
-use Rattle.steps.specs.Step.{Setting, setting, plain}
-use Rattle.steps.specs.Made.{Ready}
+use Rattle.steps.proofs.Laws.{Setting, setting, plain, Ready}
 use Rattle.unary.specs.Run.{Ran}
 use Rattle.unary.proofs.Turn.{lentTo, Here, stepsLeft, Turn, turn, ready-kept}
 use Rattle.unary.proofs.run_judged.Statement.{statement}
@@ -104,26 +97,6 @@ loop-again-3 : tie.Need-loop-again-3 Inv-loop μ-loop
 loop-again-3 c = let S = c .before .before .before in (kept S, law S .absorb (c .enum-told2 .given .1) .here)
 
 pub run-judged-spec : {M : Type 1} → statement M
-run-judged-spec =
-    tie.close
-    (tie.spec
-    Inv-loop
-    μ-loop
-    loop-holds
-    sub-free
-    step-requires
-    enum-known-kind
-    same-length
-    returns
-    enum-told
-    add-i
-    loop-less
-    loop-again
-    enum-known-kind-2
-    slice-write-output
-    add-o
-    loop-less-2
-    loop-again-2
-    enum-told-2
-    loop-less-3
-    loop-again-3)
+run-judged-spec = tie.close (tie.spec
+    Inv-loop μ-loop loop-holds sub-free step-requires enum-known-kind same-length returns enum-told add-i loop-less loop-again enum-known-kind-2
+    slice-write-output add-o loop-less-2 loop-again-2 enum-told-2 loop-less-3 loop-again-3)

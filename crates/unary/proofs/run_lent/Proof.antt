@@ -1,12 +1,8 @@
 -- `unary::run_lent` meets its contract: what is refused is left untouched, and what is not is a run of steps.
-use borrow.Author.Needs.{needs}
-use mathlib.Core.Path.{_≡_, sym, ap, _∙_}
-use Prim.Native.Nat.{ℕ}
-use denote.Ref.{now}
-use Rattle.digits.specs.System.{lent}
-use Rattle.runs.specs.Run.{stopped}
-use Rattle.steps.specs.Types.{Refused}
-use Rattle.steps.specs.Step.{Setting, setting}
+use Rattle.whole.proofs.Laws.{needs, _≡_, sym, ap, _∙_, ℕ, now}
+use Rattle.digits.proofs.Laws.{lent}
+use Rattle.runs.proofs.Laws.{stopped}
+use Rattle.steps.proofs.Laws.{Refused, Setting, setting}
 use Rattle.unary.specs.Judging.{refusalOf}
 use Rattle.unary.specs.Run.{Ran, answerOf}
 use Rattle.unary.proofs.Judging.{accepted-ready}

@@ -1,10 +1,6 @@
 -- `unary::state_kept` meets its contract: the tests of `state?` in their order, and what a later one needs has passed those before.
-use borrow.Author.Needs.{needs}
-use borrow.Author.Tests.{not-true, not-false, eq-eqb, ne-eqb}
-use mathlib.Core.Path.{_≡_, sym, _∙_}
-use mathlib.Core.Bool.{true}
-use Rattle.plane.specs.Tests.{within?}
-use Rattle.plane.proofs.Laws.{above, within-products, within-says}
+use Rattle.whole.proofs.Laws.{needs, not-true, not-false, eq-eqb, ne-eqb, _≡_, sym, _∙_, true}
+use Rattle.plane.proofs.Laws.{within?, above, within-products, within-says}
 use Rattle.unary.specs.Judging.{state?}
 use Rattle.unary.proofs.state_kept.Statement.{statement}
 use Rattle.unary.proofs.state_kept.Tie as tie
@@ -39,6 +35,5 @@ returns-4 c =
     rw (near (d .before), above (d .determinant .ok) (d .determinant .ensures), g .before .if2 .left, sym (g .divisor .ensures), eq-eqb _ _ (c .before .if3 .left)) (c .held-below .ensures)
 
 pub state-kept-spec : {M : Type 1} → statement M
-state-kept-spec =
-    tie.close
-    (tie.spec (λ c κs. search needs) returns determinant-requires returns-2 (λ c κs. search needs) returns-3 (λ c κs. search needs) returns-4)
+state-kept-spec = tie.close (tie.spec
+    (λ c κs. search needs) returns determinant-requires returns-2 (λ c κs. search needs) returns-3 (λ c κs. search needs) returns-4)

@@ -1,8 +1,6 @@
 -- `whole::gcd` meets its contract: Euclid's end and his step, and the second number, which is the measure `μ-gcd`, falls at each call.
-use mathlib.Core.Path.{sym, _∙_}
-use Prim.Native.Nat.{ℕ, _<_}
+use Rattle.whole.proofs.Base.{sym, _∙_, ℕ, _<_, arith}
 use native.Mathlib.Nat.{mod-lt}
-use native.Mathlib.Omega.{arith}
 use Rattle.whole.proofs.Divisor.{gcd-end, gcd-step}
 use borrow.Fn.Kinds.{In}
 use borrow.Fn.PlainCycle.{Measures, is, falls, and}

@@ -1,11 +1,6 @@
 -- `whole::magnitude` meets its contract. A number a below 0 is −1 − n, where n, its `mag`, is below 2^63: so a + 1 is −n, its negation n, and 1 is added last.
-use mathlib.Core.Path.{_≡_, refl, sym, ap, subst, _∙_}
-use mathlib.Core.Bool.{true}
-use Prim.Native.Nat.{ℕ, zero, suc, _+_, _≤_}
-use native.Mathlib.Omega.{arith}
-use borrow.Author.Tests.{ltb-true}
-use lib.IntN.{ℤ, pos, negsuc, negℤ, natAbs, _+ℤ_, _-ℤ_, +ℤ-one, +ℤ-idl, negℤ-negℤ}
-use lib.Signed.{mag, ltZ}
+use Rattle.whole.proofs.Base.{_≡_, refl, sym, ap, subst, _∙_, true, ℕ, zero, suc, _+_, _≤_, arith, ltb-true, ℤ, pos, negsuc, negℤ, natAbs, _+ℤ_, _-ℤ_, +ℤ-idl, mag, ltZ}
+use lib.IntN.{+ℤ-one, negℤ-negℤ}
 use mir.Syntax.{w64}
 use mir.Val.{SFits, ofZ, toZ}
 use mir.Facts.{toZ-ofZ}
@@ -65,6 +60,4 @@ returns-2 : tie.Need-returns-2
 returns-2 c = ap natAbs (toZ-ofZ (c .before .fits .a))
 
 pub magnitude-spec : {M : Type 1} → statement M
-magnitude-spec =
-    tie.close
-    (tie.spec add-result sub-result cast-result add-result-2 cast-result-2 returns returns-2)
+magnitude-spec = tie.close (tie.spec add-result sub-result cast-result add-result-2 cast-result-2 returns returns-2)

@@ -1,10 +1,6 @@
 -- `whole::quotient` meets its contract: the quotient of a number that fits is no farther from 0.
-use borrow.Author.Needs.{needs}
-use mathlib.Core.Path.{_∙_, sym, ap₂, subst₂}
-use Prim.Native.Nat.{ℕ, zero, suc, zero-le, _/_, _≤_}
-use native.Mathlib.Nat.{le-of-suc-le-suc, div-le-self, lt-of-le-of-lt}
-use lib.IntN.{ℤ, pos, negsuc, negℤ}
-use lib.Signed.{mag, quotZ}
+use Rattle.whole.proofs.Base.{needs, _∙_, sym, ap₂, subst₂, ℕ, zero, suc, zero-le, _/_, _≤_, div-le-self, lt-of-le-of-lt, ℤ, pos, negsuc, negℤ, mag, quotZ}
+use native.Mathlib.Nat.{le-of-suc-le-suc}
 use mir.Syntax.{w64}
 use mir.Val.{SFits}
 use mir.Facts.{toZ-ofZ, toZ-pos}

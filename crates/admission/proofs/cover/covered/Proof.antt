@@ -1,15 +1,6 @@
 -- `admission::cover::covered` meets its contract: a search for the first digit behind whose right end no other goes on.
-use borrow.Author.Needs.{needs}
-use mathlib.Core.Path.{_≡_, sym, ap, _∙_, subst}
-use mathlib.Core.Bool.{Bool, not}
-use Prim.Native.Nat.{ℕ, _-_}
-use denote.Ref.{now}
-use Rattle.whole.specs.Range.{Within}
-use Rattle.whole.specs.First.{found?}
-use Rattle.whole.proofs.Laws.{Standing, begins, misses, hits, ends}
-use Rattle.digits.specs.Types.{System}
-use Rattle.digits.specs.System.{lent, interval}
-use Rattle.digits.proofs.Laws.{stored-there}
+use Rattle.whole.proofs.Laws.{needs, _≡_, sym, ap, _∙_, subst, Bool, not, ℕ, _-_, now, Within, found?, Standing, begins, misses, hits, ends}
+use Rattle.digits.proofs.Laws.{System, lent, interval, stored-there}
 use Rattle.admission.specs.Admission.{someGoesOn?}
 use Rattle.admission.proofs.cover.covered.Statement.{statement}
 use Rattle.admission.proofs.cover.covered.Tie as tie
@@ -45,6 +36,5 @@ loop-again c = let l = c .before .before .before in misses (l .before .loop .inv
 
 pub covered-spec : {M : Type 1} → statement M
 covered-spec = tie.close (tie.spec
-    Inv-loop μ-loop (λ c. begins)
-    (λ c κs. let p = c .before .before .pre in stored-there (p .0) (p .1) (c .loop-test .taken)) some-goes-on-requires
-    returns (λ c. search needs) (λ c. search needs) loop-again (λ c. sym (ap (λ o. not (found? o)) (ends (c .before .loop .inv) (c .loop-test .left)))))
+    Inv-loop μ-loop (λ c. begins) (λ c κs. let p = c .before .before .pre in stored-there (p .0) (p .1) (c .loop-test .taken)) some-goes-on-requires returns
+    (λ c. search needs) (λ c. search needs) loop-again (λ c. sym (ap (λ o. not (found? o)) (ends (c .before .loop .inv) (c .loop-test .left)))))

@@ -1,20 +1,11 @@
 -- `admission::cover::goes_on_behind` meets its contract. With p = det(z, x) and q = det(z, y) of the right end z of v and the ends x and y of w: w ends at z too exactly
 -- if q is 0, and holds z exactly if p·q is 0 or below. The code forms both and compares their signs.
-use borrow.Author.Needs.{needs}
-use borrow.Author.Tests.{ne-eqb}
-use mathlib.Core.Path.{_≡_, sym, _∙_, ap}
-use mathlib.Core.Bool.{Bool, not, _&&_, and-true, and-false}
-use mathlib.Core.List.{List}
-use lib.Dec.{eqb}
-use lib.IntN.{ℤ, pos, natAbs, _*ℤ_}
-use lib.Signed.{leZ}
+use Rattle.whole.proofs.Laws.{needs, ne-eqb, _≡_, sym, _∙_, ap, Bool, not, _&&_, List, eqb, ℤ, pos, natAbs, _*ℤ_, leZ, at, near-le, natAbs-zero, back, near-back, back-of}
+use Rattle.plane.proofs.Laws.{right}
+use Rattle.inclusion.proofs.Laws.{same?, sidesOf, closed-from}
+use mathlib.Core.Bool.{and-true, and-false}
 use mir.Syntax.{w64}
 use mir.Val.{ofZ, toZ}
-use Rattle.whole.specs.Range.{at}
-use Rattle.whole.proofs.Laws.{near-le, natAbs-zero, back, near-back, back-of}
-use Rattle.plane.specs.Plane.{right}
-use Rattle.inclusion.specs.Inclusion.{same?, sidesOf}
-use Rattle.inclusion.proofs.Laws.{closed-from}
 use Rattle.admission.specs.Admission.{goesOnBehind?}
 use Rattle.admission.proofs.cover.goes_on_behind.Statement.{statement}
 use Rattle.admission.proofs.cover.goes_on_behind.Tie as tie

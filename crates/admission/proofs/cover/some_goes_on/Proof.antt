@@ -1,16 +1,6 @@
 -- `admission::cover::some_goes_on` meets its contract: a search for the first digit whose interval goes on behind v's right end.
-use borrow.Author.Needs.{needs}
-use mathlib.Core.Path.{_≡_, sym, ap, _∙_, subst}
-use mathlib.Core.Bool.{Bool}
-use mathlib.Core.List.{List}
-use Prim.Native.Nat.{ℕ, _-_}
-use lib.IntN.{ℤ}
-use denote.Ref.{now}
-use Rattle.whole.specs.Range.{Within}
-use Rattle.whole.specs.First.{found?}
-use Rattle.whole.proofs.Laws.{Standing, begins, misses, hits, ends}
-use Rattle.digits.specs.System.{intervalAt}
-use Rattle.digits.proofs.Laws.{stored-there}
+use Rattle.whole.proofs.Laws.{needs, _≡_, sym, ap, _∙_, subst, Bool, List, ℕ, _-_, ℤ, now, Within, found?, Standing, begins, misses, hits, ends}
+use Rattle.digits.proofs.Laws.{intervalAt, stored-there}
 use Rattle.admission.specs.Admission.{goesOnBehind?}
 use Rattle.admission.proofs.cover.some_goes_on.Statement.{statement}
 use Rattle.admission.proofs.cover.some_goes_on.Tie as tie
@@ -42,6 +32,5 @@ loop-again c = let l = c .before .before .before in misses (l .before .loop .inv
 
 pub some-goes-on-spec : {M : Type 1} → statement M
 some-goes-on-spec = tie.close (tie.spec
-    Inv-loop μ-loop (λ c. begins)
-    (λ c κs. let p = c .before .before .pre in stored-there (p .0) (p .1) (c .loop-test .taken)) goes-on-behind-requires
-    returns (λ c. search needs) (λ c. search needs) loop-again (λ c. sym (ap found? (ends (c .before .loop .inv) (c .loop-test .left)))))
+    Inv-loop μ-loop (λ c. begins) (λ c κs. let p = c .before .before .pre in stored-there (p .0) (p .1) (c .loop-test .taken)) goes-on-behind-requires returns
+    (λ c. search needs) (λ c. search needs) loop-again (λ c. sym (ap found? (ends (c .before .loop .inv) (c .loop-test .left)))))

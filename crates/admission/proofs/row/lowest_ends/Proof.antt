@@ -1,13 +1,5 @@
 -- `admission::row::lowest_ends` meets its contract: what is handed of each end's two words is the greatest common divisor of its two numbers.
-use borrow.Author.Needs.{needs}
-use borrow.Author.Tests.{eq-eqb, ne-eqb}
-use mathlib.Core.Path.{_≡_, sym, _∙_, ap}
-use Prim.Native.Nat.{ℕ}
-use lib.Dec.{eqb}
-use lib.IntN.{ℤ, natAbs}
-use Rattle.whole.specs.Range.{at}
-use Rattle.whole.specs.Divisor.{gcd}
-use Rattle.whole.proofs.Laws.{back-of}
+use Rattle.whole.proofs.Laws.{needs, eq-eqb, ne-eqb, _≡_, sym, _∙_, ap, ℕ, eqb, ℤ, natAbs, at, gcd, back-of}
 use Rattle.plane.proofs.Laws.{held, Fits}
 use Rattle.admission.proofs.row.lowest_ends.Statement.{statement}
 use Rattle.admission.proofs.row.lowest_ends.Tie as tie

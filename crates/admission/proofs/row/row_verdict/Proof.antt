@@ -1,15 +1,8 @@
 -- `admission::row::row_verdict` meets its contract: the code asks the tests of `rowVerdict` in their order, and what it hands on has passed those before.
-use borrow.Author.Needs.{needs}
-use borrow.Author.Tests.{not-true, not-false, eq-eqb, ne-eqb}
-use mathlib.Core.Path.{_≡_, sym, _∙_}
-use mathlib.Core.Bool.{true, not, cond, _&&_}
-use lib.IntN.{pos}
-use lib.Signed.{leZ}
-use Rattle.plane.proofs.Laws.{held, above, below, within-products, within-says}
-use Rattle.plane.specs.Tests.{within?, lowest?}
+use Rattle.whole.proofs.Laws.{needs, not-true, not-false, eq-eqb, ne-eqb, _≡_, sym, _∙_, true, not, cond, _&&_, pos, leZ, true-both}
+use Rattle.plane.proofs.Laws.{held, above, below, within-products, within-says, within?, lowest?}
 use Rattle.admission.specs.Admission.{lowestEnds?, rowVerdict}
 use Rattle.admission.specs.Types.{Admitted, NotBelow, NotLowest}
-use Rattle.whole.proofs.Laws.{true-both}
 use Rattle.admission.proofs.row.row_verdict.Statement.{statement}
 use Rattle.admission.proofs.row.row_verdict.Tie as tie
 
@@ -66,7 +59,6 @@ returns-7 c = rw (ends (c .before), c .if6 .left)
 
 pub row-verdict-spec : {M : Type 1} → statement M
 row-verdict-spec = tie.close (tie.spec
-    (λ c κs. search needs) returns (λ c κs. search needs) returns-2
-    (λ c κs. within-products (within-says 100 _ (range-f (c .before .before))) tt) returns-3
-    (λ c κs. within-products (within-says 100 _ (range-w (c .before .before))) tt) returns-4
-    (λ c κs. search needs) returns-5 (λ c κs. search needs) returns-6 returns-7)
+    (λ c κs. search needs) returns (λ c κs. search needs) returns-2 (λ c κs. within-products (within-says 100 _ (range-f (c .before .before))) tt) returns-3
+    (λ c κs. within-products (within-says 100 _ (range-w (c .before .before))) tt) returns-4 (λ c κs. search needs) returns-5 (λ c κs. search needs) returns-6
+    returns-7)

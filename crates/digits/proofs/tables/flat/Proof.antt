@@ -1,12 +1,5 @@
 -- `digits::tables::flat` meets its contract. The invariant: the first a rows of the table stand in their places.
-use borrow.Author.Needs.{needs}
-use mathlib.Core.Path.{_≡_, refl, ap, _∙_}
-use mathlib.Core.List.{List, []}
-use Prim.Native.Nat.{ℕ, zero, suc, _+_, _*_, _-_, _≤_}
-use native.Mathlib.Omega.{arith}
-use native.Mathlib.Numerals.{add-one}
-use lib.IntN.{ℤ}
-use lib.ListN.{getD, length, length-set}
+use Rattle.whole.proofs.Laws.{needs, _≡_, refl, ap, _∙_, List, [], ℕ, zero, suc, _+_, _*_, _-_, _≤_, arith, add-one, ℤ, getD, length, length-set}
 use Rattle.digits.specs.BuiltIn.{putRow, putRows}
 use Rattle.digits.proofs.tables.flat.Statement.{statement}
 use Rattle.digits.proofs.tables.flat.Tie as tie
@@ -43,6 +36,5 @@ returns c = let e : c .before .loop .a ≡ 16 = omega arith in c .before .loop .
 
 pub flat-spec : {M : Type 1} → statement M
 flat-spec = tie.close (tie.spec
-    Inv-loop μ-loop loop-holds
-    (λ c. search needs) (λ c. search needs) (λ c. search needs) (λ c. search needs) (λ c κs. search needs) (λ c. search needs) (λ c. search needs)
-    loop-again returns)
+    Inv-loop μ-loop loop-holds (λ c. search needs) (λ c. search needs) (λ c. search needs) (λ c. search needs) (λ c κs. search needs) (λ c. search needs)
+    (λ c. search needs) loop-again returns)

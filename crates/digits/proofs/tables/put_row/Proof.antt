@@ -1,15 +1,6 @@
 -- `digits::tables::put_row` meets its contract. The invariant: the first j numbers of the row stand in their places.
-use borrow.Author.Needs.{needs}
-use mathlib.Core.Path.{_≡_, refl, ap, ap₂, _∙_}
-use mathlib.Core.List.{List}
-use Prim.Native.Nat.{ℕ, _+_, _-_, _≤_}
-use native.Mathlib.Omega.{arith}
-use native.Mathlib.Numerals.{add-one}
-use lib.IntN.{ℤ}
-use lib.ListN.{length, set, length-set}
+use Rattle.whole.proofs.Laws.{needs, _≡_, refl, ap, ap₂, _∙_, List, ℕ, _+_, _-_, _≤_, arith, add-one, ℤ, length, set, length-set, at, element-16}
 use mir.Facts.{toZ-ofZ}
-use Rattle.whole.specs.Range.{at}
-use Rattle.whole.proofs.Laws.{element-16}
 use Rattle.digits.specs.BuiltIn.{putRow}
 use Rattle.digits.proofs.tables.put_row.Statement.{statement}
 use Rattle.digits.proofs.tables.put_row.Tie as tie
@@ -41,6 +32,5 @@ returns c =
 
 pub put-row-spec : {M : Type 1} → statement M
 put-row-spec = tie.close (tie.spec
-    Inv-loop μ-loop loop-holds
-    (λ c. search needs) (λ c. search needs) (λ c. search needs) (λ c. search needs) (λ c. search needs) (λ c. search needs) (λ c. search needs)
-    loop-again (λ c. c .before .loop .inv .1) returns)
+    Inv-loop μ-loop loop-holds (λ c. search needs) (λ c. search needs) (λ c. search needs) (λ c. search needs) (λ c. search needs) (λ c. search needs)
+    (λ c. search needs) loop-again (λ c. c .before .loop .inv .1) returns)

@@ -1,5 +1,5 @@
 -- `digits::tables::system_d` meets its contract: the rows of the table, one behind the other, by computation.
-use borrow.Author.Needs.{needs}
+use Rattle.whole.proofs.Laws.{needs}
 use Rattle.digits.specs.BuiltIn.{systemOf, putRow, putRows}
 use Rattle.digits.proofs.tables.system_d.Statement.{statement}
 use Rattle.digits.proofs.tables.system_d.Tie as tie

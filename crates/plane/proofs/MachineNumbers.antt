@@ -1,15 +1,7 @@
 -- What the function proofs say of 64-bit words: a word holds the number that was stored in it, if that fits.
-use mathlib.Core.Path.{_≡_, sym, ap, _∙_}
-use mathlib.Core.Bool.{Bool, true, false, not}
-use mathlib.Core.List.{[], _∷_}
-use Prim.Native.Nat.{ℕ, _+_, _*_, _^_, _<_}
-use lib.Dec.{T, ltb}
-use lib.IntN.{ℤ, pos, natAbs, _-ℤ_, _*ℤ_}
-use lib.Signed.{mag, leZ, ltZ}
+use Rattle.whole.proofs.Laws.{_≡_, sym, ap, _∙_, Bool, true, false, not, [], _∷_, ℕ, _+_, _*_, _^_, _<_, T, ltb, ℤ, pos, natAbs, _-ℤ_, _*ℤ_, mag, leZ, ltZ, Near, back, near-back, ok-back, back-of, Stands, le-true, le-false, true-lt, false-lt}
 use mir.Syntax.{w64}
 use mir.Val.{ofZ, toZ}
-use Rattle.whole.specs.Range.{Near}
-use Rattle.whole.proofs.Laws.{back, near-back, ok-back, back-of, Stands, le-true, le-false, true-lt, false-lt}
 use Rattle.plane.specs.Fits.{Products}
 use Rattle.plane.specs.Plane.{determinantOf}
 
