@@ -164,10 +164,6 @@ module _ {State Stop : Type 0} (more : Supply) where
   follow-same (divisor e g p) xs ys room (suc n) =
       rw (place-more e n (more .list)) (and-same p (ahead xs ys room (suc n)) (listed g) (divisor-pays g xs ys room n) (follow-same p xs ys (room - 0) (suc n - 1)))
 
-pub going-map : {State Stop : Type 0} (P Q : State → Deed → Type 0) → ((t : State) (d : Deed) → P t d → Q t d) → (v : Outcome State Stop) → Going P v → Going Q v
-going-map P Q f (goes t d) h = f t d h
-going-map P Q f (halts e) h = tt
-
 -- where more does not change the plan, and the run can't tell afterwards either
 pub planned-steady : {State Stop : Type 0} (plan : State → Supply → Plan State Stop) (held : State → ℕ) (idle : Stop) (more : Supply) (Unseen : State → Supply → Type 0) →
     ((s : State) (r : Supply) → Unseen s r → Going (λ t d. (plan s (join r more) ≡ plan s r) × Unseen t (spend d r)) (follow (plan s r) r)) →

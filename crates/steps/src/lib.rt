@@ -3,7 +3,7 @@
 ghost use mathlib.Core.Path.{_≡_};
 ghost use mathlib.Core.Bool.{cond};
 ghost use mathlib.Core.List.{List};
-ghost use Prim.Native.Nat.{ℕ, _≤_};
+ghost use Prim.Native.Nat.{ℕ};
 ghost use lib.ListN.{drop};
 ghost use Rattle.whole.specs.Range.{Within};
 ghost use Rattle.plane.specs.Plane.{multiplyOf, cancelOf};
@@ -88,7 +88,6 @@ pub fn end_number(stop: Stop) -> u8
     }
 }
 
-// Whether a run was refused.
 pub fn refused(stop: Stop) -> bool
     ensures { λ r. ⌜ r ≡ refused? stop ⌝ }
 {
@@ -101,7 +100,6 @@ pub fn refused(stop: Stop) -> bool
     }
 }
 
-// What one step does: it takes a byte, gives a digit out, absorbs the held one, or stops.
 pub enum Kind {
     Load(u8),
     Give(u8),
@@ -173,7 +171,6 @@ fn fitting_digit(count: usize, rows: &[i16], image: [i64; 4]) -> Fitting
     Fitting::Missing
 }
 
-// A product, cancelled.
 fn product(m: [i64; 4], n: [i64; 4]) -> [i64; 4]
     requires { ⌜ Factors m n ⌝ }
     ensures { λ r. ⌜ r ≡ cancelOf (multiplyOf m n) ⌝ }
@@ -209,7 +206,7 @@ fn absorb(rows: &[i16], s: State, h: u8) -> Move
     in_range(s, Kind::Absorb, t)
 }
 
-// Lines 4 and 5: the digit h is held. (The input system's count does not matter here, so none is asked for.)
+// Lines 4 and 5: the digit h is held. The input system's count does not matter here.
 fn emit(
     input_rows: &[i16],
     output_count: usize,

@@ -9,7 +9,7 @@ pub use Rattle.unary.proofs.Runs.{accepted-again, CourseInRange, course
 pub use Rattle.unary.proofs.Again.{stops-again, cut-anywhere}
 pub use Rattle.unary.proofs.SameRun.{same-course, same-run}
 -- no second answer fits
-pub use Rattle.unary.proofs.OneAnswer.{one-opening, one-opening-sentence, one-judgement, RunPromise, one-run}
+pub use Rattle.unary.proofs.OneAnswer.{one-opening, one-opening-sentence, RunPromise, one-run}
 -- the definitions
 unfoldable pub use Rattle.unary.specs.Judging.{refusalOf, state?}
 pub use Rattle.unary.specs.Opening.{OpeningCase, openingNumber, openingOf, startOf}

@@ -4,8 +4,5 @@ use Rattle.numbers.proofs.Lists.{known}
 use Rattle.numbers.proofs.put_found.Statement.{statement}
 use Rattle.numbers.proofs.put_found.Tie as tie
 
-returns : tie.Need-returns
-returns c = rw (known 0 4 (now (c .args .found)) (c .pre))
-
 pub put-found-spec : {M : Type 1} → statement M
-put-found-spec = tie.close (tie.spec (λ c. search needs) (λ c. search needs) (λ c. search needs) (λ c. search needs) (λ c. search needs) returns)
+put-found-spec = tie.close (tie.spec (λ c. search needs) (λ c. search needs) (λ c. search needs) (λ c. search needs) (λ c. search needs) (λ c. rw (known 0 4 (now (c .args .found)) (c .pre))))

@@ -7,13 +7,10 @@ use Rattle.plane.proofs.both_near.Tie as tie
 first : (c : tie.After-magnitude) → c .magnitude .result ≡ natAbs (c .before .args .x)
 first c = c .magnitude .ensures ∙ ap natAbs (toZ-ofZ (c .before .fits .x))
 
-returns : tie.Need-returns
-returns c = rw (sym (first (c .before)), lt-leb _ _ (c .if1 .taken))
-
 returns-2 : tie.Need-returns-2
 returns-2 c =
     let s = c .before .before .before in
     rw (sym (first (c .before .before)), le-leb _ _ (c .before .if1 .left)) (ap (λ (n : ℕ). leb n (s .args .b)) (c .magnitude2 .ensures ∙ ap natAbs (toZ-ofZ (s .fits .y))))
 
 pub both-near-spec : {M : Type 1} → statement M
-both-near-spec = tie.close (tie.spec (λ c κs. search needs) returns (λ c κs. search needs) returns-2)
+both-near-spec = tie.close (tie.spec (λ c κs. search needs) (λ c. rw (sym (first (c .before)), lt-leb _ _ (c .if1 .taken))) (λ c κs. search needs) returns-2)

@@ -24,12 +24,9 @@ judged n =
     let l = o .before .before in
     rw (eq-eqb _ _ (l .before .if1 .left), eq-eqb _ _ (l .if2 .left), ← (o .«open» .ensures ∙ ap openOf (o .before .matrix-from .ensures)), ← (n .opening-number .ensures))
 
-returns-3 : tie.Need-returns-3
-returns-3 c = sym (judged (c .before) ∙ decided _ _ (c .if3 .taken))
-
 returns-4 : tie.Need-returns-4
 returns-4 c = let l = c .before .before .before in ap (wrote 0) (c .before .put-state .ensures) ∙ sym (judged (l .before) ∙ passed _ _ (l .if3 .left))
 
 pub sled-open-spec : {M : Type 1} → statement M
-sled-open-spec = tie.close (tie.spec returns returns-2 (λ c κs. search needs) (λ c κs. search needs) (λ c κs. search needs) (λ c. search needs) returns-3
+sled-open-spec = tie.close (tie.spec returns returns-2 (λ c κs. search needs) (λ c κs. search needs) (λ c κs. search needs) (λ c. search needs) (λ c. sym (judged (c .before) ∙ decided _ _ (c .if3 .taken)))
     (λ c κs. search needs) (λ c. search needs) returns-4)

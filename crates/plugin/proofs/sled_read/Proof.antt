@@ -11,9 +11,6 @@ judged : (n : tie.After-read-number) → let r = n .before in let a = r .before 
 unfolding readCall
 judged n = rw (← (n .before .read .ensures), ← (n .read-number .ensures))
 
-returns : tie.Need-returns
-returns c = sym (judged (c .before) ∙ decided _ _ (c .if1 .taken))
-
 put-job-requires : tie.Need-put-job-requires
 put-job-requires c κs = let l = c .before .before .before .before in read-lengths _ _ _ _ (l .before .before .read .result .verdict) (l .before .read-number .ensures) (l .if1 .left)
 
@@ -24,5 +21,5 @@ returns-2 c =
     p .put-job .ensures ∙ sym (judged (l .before) ∙ passed _ _ (l .if1 .left))
 
 pub sled-read-spec : {M : Type 1} → statement M
-sled-read-spec = tie.close (tie.spec (λ c κs. search needs) (λ c κs. search needs) returns put-job-requires (λ c. search needs) (λ c. search needs)
+sled-read-spec = tie.close (tie.spec (λ c κs. search needs) (λ c κs. search needs) (λ c. sym (judged (c .before) ∙ decided _ _ (c .if1 .taken))) put-job-requires (λ c. search needs) (λ c. search needs)
     (λ c. search needs) (λ c. search needs) returns-2)

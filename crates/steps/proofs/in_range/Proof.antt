@@ -3,11 +3,5 @@ use Rattle.whole.proofs.Laws.{needs, sym, _∙_}
 use Rattle.steps.proofs.in_range.Statement.{statement}
 use Rattle.steps.proofs.in_range.Tie as tie
 
-returns : tie.Need-returns
-returns c = rw (sym (c .before .within .ensures) ∙ c .if1 .taken)
-
-returns-2 : tie.Need-returns-2
-returns-2 c = rw (sym (c .before .within .ensures) ∙ c .if1 .left)
-
 pub in-range-spec : {M : Type 1} → statement M
-in-range-spec = tie.close (tie.spec (λ c κs. search needs) returns returns-2)
+in-range-spec = tie.close (tie.spec (λ c κs. search needs) (λ c. rw (sym (c .before .within .ensures) ∙ c .if1 .taken)) (λ c. rw (sym (c .before .within .ensures) ∙ c .if1 .left)))

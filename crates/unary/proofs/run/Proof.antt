@@ -14,8 +14,5 @@ run-lent-requires : tie.Need-run-lent-requires
 run-lent-requires c κs =
     (stored-128 (sym (slice-aggregate-run-lent (c .before .before))), stored-128 (sym (slice-aggregate-run-lent-2 (c .before))))
 
-returns : tie.Need-returns
-returns c = c .before .before .run-lent .ensures
-
 pub run-spec : {M : Type 1} → statement M
-run-spec = tie.close (tie.spec slice-aggregate-run-lent slice-aggregate-run-lent-2 run-lent-requires (λ c. search needs) returns)
+run-spec = tie.close (tie.spec slice-aggregate-run-lent slice-aggregate-run-lent-2 run-lent-requires (λ c. search needs) (λ c. c .before .before .run-lent .ensures))

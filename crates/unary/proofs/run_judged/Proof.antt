@@ -27,9 +27,6 @@ loop-holds c =
 sub-free : tie.Need-sub-free Inv-loop μ-loop
 sub-free c = omega (arith, c .loop .inv .1 .room, c .loop .inv .1 .out-length)
 
-step-requires : tie.Need-step-requires Inv-loop μ-loop
-step-requires c κs = c .loop .inv .0
-
 -- ---- a turn of the loop, behind its step
 
 abbrev start : tie.After-step Inv-loop μ-loop → tie.Start Inv-loop μ-loop
@@ -45,9 +42,6 @@ law S = turn (S .before .loop .inv .1) (S .step .ensures)
 -- what the steps rely on is kept
 kept : (S : tie.After-step Inv-loop μ-loop) → Ready (pair S) (S .step .result .state)
 kept S = ready-kept (S .step .result) _ (S .before .loop .inv .0) (S .step .ensures)
-
-enum-known-kind : tie.Need-enum-known-kind Inv-loop μ-loop
-enum-known-kind c = search needs
 
 same-length : tie.Need-same-length Inv-loop μ-loop
 same-length c = c .before .before .before .before .before .loop .inv .1 .out-length
@@ -70,9 +64,6 @@ loop-less c = law (c .before .before .before) .load _ (c .enum-told .given .1) .
 loop-again : tie.Need-loop-again Inv-loop μ-loop
 loop-again c = let S = c .before .before .before in (kept S, law S .load _ (c .enum-told .given .1) .1 .here)
 
-enum-known-kind-2 : tie.Need-enum-known-kind-2 Inv-loop μ-loop
-enum-known-kind-2 c = search needs
-
 -- a step that gives a digit out
 slice-write-output : tie.Need-slice-write-output Inv-loop μ-loop
 slice-write-output c = law (c .before .before .before .before) .give _ (c .before .kind2 .given .1) .0
@@ -86,9 +77,6 @@ loop-less-2 c = law (c .before .before .before .before) .give _ (c .before .kind
 loop-again-2 : tie.Need-loop-again-2 Inv-loop μ-loop
 loop-again-2 c = let S = c .before .before .before .before in (kept S, law S .give _ (c .before .kind2 .given .1) .1 .here)
 
-enum-told-2 : tie.Need-enum-told-2 Inv-loop μ-loop
-enum-told-2 c = search needs
-
 -- a step that absorbs
 loop-less-3 : tie.Need-loop-less-3 Inv-loop μ-loop
 loop-less-3 c = law (c .before .before .before) .absorb (c .enum-told2 .given .1) .falls
@@ -98,5 +86,5 @@ loop-again-3 c = let S = c .before .before .before in (kept S, law S .absorb (c 
 
 pub run-judged-spec : {M : Type 1} → statement M
 run-judged-spec = tie.close (tie.spec
-    Inv-loop μ-loop loop-holds sub-free step-requires enum-known-kind same-length returns enum-told add-i loop-less loop-again enum-known-kind-2
-    slice-write-output add-o loop-less-2 loop-again-2 enum-told-2 loop-less-3 loop-again-3)
+    Inv-loop μ-loop loop-holds sub-free (λ c κs. c .loop .inv .0) (λ c. search needs) same-length returns enum-told add-i loop-less loop-again (λ c. search needs)
+    slice-write-output add-o loop-less-2 loop-again-2 (λ c. search needs) loop-less-3 loop-again-3)

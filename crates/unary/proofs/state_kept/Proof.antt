@@ -13,9 +13,6 @@ returns c = let t = c .before .within in rw (sym (t .ensures) ∙ not-true (t .r
 near : (c : tie.Else1) → within? 1000000000 (c .before .before .before .args .s .matrix) ≡ true
 near c = let t = c .before .within in sym (t .ensures) ∙ not-false (t .result) (c .if1 .left)
 
-determinant-requires : tie.Need-determinant-requires
-determinant-requires c κs = within-products (within-says 1000000000 _ (near c)) tt
-
 returns-2 : tie.Need-returns-2
 unfolding state?
 returns-2 c = let d = c .before in rw (near (d .before), above (d .determinant .ok) (d .determinant .ensures), c .if2 .taken)
@@ -36,4 +33,4 @@ returns-4 c =
 
 pub state-kept-spec : {M : Type 1} → statement M
 state-kept-spec = tie.close (tie.spec
-    (λ c κs. search needs) returns determinant-requires returns-2 (λ c κs. search needs) returns-3 (λ c κs. search needs) returns-4)
+    (λ c κs. search needs) returns (λ c κs. within-products (within-says 1000000000 _ (near c)) tt) returns-2 (λ c κs. search needs) returns-3 (λ c κs. search needs) returns-4)

@@ -56,8 +56,5 @@ returns c = ap (λ z. natAbs z + 1) (held c) ∙ one-more (c .before .args .a) (
 cast-result-2 : tie.Need-cast-result-2
 cast-result-2 c = unsigned-ok (c .before .fits .a) (lt-false _ _ (simp (toZ-ofZ (c .before .fits .a)) at (c .if1 .left)))
 
-returns-2 : tie.Need-returns-2
-returns-2 c = ap natAbs (toZ-ofZ (c .before .fits .a))
-
 pub magnitude-spec : {M : Type 1} → statement M
-magnitude-spec = tie.close (tie.spec add-result sub-result cast-result add-result-2 cast-result-2 returns returns-2)
+magnitude-spec = tie.close (tie.spec add-result sub-result cast-result add-result-2 cast-result-2 returns (λ c. ap natAbs (toZ-ofZ (c .before .fits .a))))

@@ -18,9 +18,6 @@ mag-quot (negsuc a) g = mag-neg (suc a / g) (div-le-self (suc a) g)
 fits : {a : ℤ} (g : ℕ) → SFits w64 a → SFits w64 (quotZ a (pos g))
 fits {a} g f = record { sfits = lt-of-le-of-lt (mag-quot a g) (f .sfits) }
 
-cast-result : tie.Need-cast-result
-cast-result c = search needs
-
 div-result : tie.Need-div-result
 div-result c =
     (c .pre .above, subst₂ (λ (p q : ℤ). SFits w64 (quotZ p q)) (sym (toZ-ofZ (c .fits .a))) (sym (toZ-pos w64 (c .pre .small))) (fits (c .args .g) (c .fits .a)))
@@ -29,4 +26,4 @@ returns : tie.Need-returns
 returns c = toZ-ofZ (div-result c .1) ∙ ap₂ quotZ (toZ-ofZ (c .fits .a)) (toZ-pos w64 (c .pre .small))
 
 pub quotient-spec : {M : Type 1} → statement M
-quotient-spec = tie.close (tie.spec cast-result div-result returns)
+quotient-spec = tie.close (tie.spec (λ c. search needs) div-result returns)

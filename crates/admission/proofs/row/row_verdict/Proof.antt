@@ -45,20 +45,11 @@ returns-3 : tie.Need-returns-3
 unfolding rowVerdict
 returns-3 c = let f = c .before in rw (range (f .before), above (f .determinant .ok) (f .determinant .ensures), c .if3 .taken)
 
-returns-4 : tie.Need-returns-4
-returns-4 c = rw (from-8 (c .before), c .if4 .taken)
-
 returns-5 : tie.Need-returns-5
 returns-5 c = let g = c .before in rw (from-9 (g .before), sym (g .divisor .ensures), ne-eqb _ _ (c .if5 .taken))
-
-returns-6 : tie.Need-returns-6
-returns-6 c = rw (ends (c .before), c .if6 .taken)
-
-returns-7 : tie.Need-returns-7
-returns-7 c = rw (ends (c .before), c .if6 .left)
 
 pub row-verdict-spec : {M : Type 1} → statement M
 row-verdict-spec = tie.close (tie.spec
     (λ c κs. search needs) returns (λ c κs. search needs) returns-2 (λ c κs. within-products (within-says 100 _ (range-f (c .before .before))) tt) returns-3
-    (λ c κs. within-products (within-says 100 _ (range-w (c .before .before))) tt) returns-4 (λ c κs. search needs) returns-5 (λ c κs. search needs) returns-6
-    returns-7)
+    (λ c κs. within-products (within-says 100 _ (range-w (c .before .before))) tt) (λ c. rw (from-8 (c .before), c .if4 .taken)) (λ c κs. search needs) returns-5 (λ c κs. search needs) (λ c. rw (ends (c .before), c .if6 .taken))
+    (λ c. rw (ends (c .before), c .if6 .left)))
