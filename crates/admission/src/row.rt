@@ -7,10 +7,10 @@ use crate::Admission;
 fn lowest_ends(w: [i64; 4]) -> bool
     ensures { λ r. ⌜ r ≡ lowestEnds? w ⌝ }
 {
-    if plane::divisor_of_two(w[0], w[1]) != 1 {
+    if cancelling::divisor_of_two(w[0], w[1]) != 1 {
         return false;
     }
-    plane::divisor_of_two(w[2], w[3]) == 1
+    cancelling::divisor_of_two(w[2], w[3]) == 1
 }
 
 // "6, 7, 8, 9", in this order.
@@ -29,7 +29,7 @@ pub(crate) fn row_verdict(f: [i64; 4], w: [i64; 4]) -> Admission
     if 0 <= plane::determinant(w) {
         return Admission::NotBelow;
     }
-    if plane::divisor(f) != 1 {
+    if cancelling::divisor(f) != 1 {
         return Admission::NotLowest;
     }
     if lowest_ends(w) {

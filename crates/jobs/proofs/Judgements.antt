@@ -2,11 +2,9 @@
 use Rattle.whole.proofs.Laws.{_≡_, refl, sym, ap, _∙_, subst, not, List, ℕ, zero, suc, _*_, _-_, _≤_, _<_, decLt, arith, eqb, length, replicate, length-append, List·getD-eq-default, getD-take, length-take-le, ℤ, pos, negsuc, at, Near, Within}
 use Rattle.digits.proofs.Laws.{filled, numbers-near, System}
 use Rattle.admission.proofs.Laws.{refusalNumber, admissionOf, Admissible, SystemCase, not-refused, admitted-says, admitted-only}
-use Rattle.unary.proofs.Laws.{openingNumber, openingOf, OpeningCase, Opening, Opens, OutOfRange, NotAbove, opening-says, one-opening-sentence}
+use Rattle.opening.proofs.Laws.{openingNumber, openingOf, OpeningCase, Opening, Opens, OutOfRange, NotAbove, opening-says, one-opening-sentence}
 use lib.ListN.{length-replicate}
-use Rattle.jobs.specs.Layout.{rowsOf, SystemRules, MatrixRules}
-use Rattle.jobs.specs.Sections.{Signed16, Sixteen, system, matrix}
-use Rattle.jobs.proofs.Numbers.{pos-16, negsuc-16}
+use Rattle.job_sections.proofs.Laws.{rowsOf, SystemRules, MatrixRules, Signed16, Sixteen, system, matrix, pos-16, negsuc-16}
 
 -- ---- the number of the sentence that holds
 

@@ -3,6 +3,5 @@ pub use Rattle.jobs.proofs.ReadsExactly.{reads-exactly, refuses-exactly
 pub use Rattle.jobs.proofs.NeverRefused.{Runs, read-never-refused}
 pub use Rattle.jobs.proofs.OneAnswer.{one-answer, not-both, one-refusal}
 -- the definitions
-pub use Rattle.jobs.specs.Layout.{Bytes}
 unfoldable pub use Rattle.jobs.specs.Reading.{readOf}
 pub use Rattle.jobs.specs.Types.{Reading, Reads, Verdict}

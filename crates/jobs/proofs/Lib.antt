@@ -3,11 +3,9 @@
 --   NeverRefused   what reads is refused by no opening and by no run
 --   OneAnswer      no second answer fits
 -- and what these stand on:
---   Numbers        numbers in bytes: what is written is read back, and what is read is written back
 --   Judgements     what admission and opening say
 --   Sections       the three kinds of section, and so the job file, keep the laws of sections (crate `sections`)
 pub mod Laws
-mod Numbers
 mod Judgements
 mod Sections
 mod ReadsExactly

@@ -3,9 +3,10 @@
 use Rattle.whole.proofs.Laws.{_≡_, sym, subst, List, ℕ}
 use Rattle.admission.proofs.Laws.{Admitted, admitted-only}
 use Rattle.steps.proofs.Laws.{setting}
-use Rattle.unary.proofs.Laws.{openOf, stepsOf, runOf, refusalOf, Opens, opens, opened-rules, accepted, run-accepted}
+use Rattle.opening.proofs.Laws.{openOf, Opens, opens, opened-rules}
+use Rattle.unary.proofs.Laws.{stepsOf, runOf, refusalOf, accepted, run-accepted}
 use Rattle.jobs.specs.Types.{Reads, Reading, Job}
-use Rattle.jobs.specs.Layout.{Contents, Bytes, Rules}
+use Rattle.job_sections.proofs.Laws.{Contents, Bytes, Rules}
 use Rattle.jobs.specs.Reading.{readingOf, readOf}
 use Rattle.jobs.proofs.ReadsExactly.{reads-laid}
 

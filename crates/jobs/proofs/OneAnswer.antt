@@ -2,7 +2,7 @@
 -- and is refused, or is refused in two ways.
 use Rattle.whole.proofs.Laws.{_≡_, sym, ap, _∙_, List, ℕ, arith}
 use Rattle.jobs.specs.Types.{Reads, Refused, Reading}
-use Rattle.jobs.specs.Layout.{Contents}
+use Rattle.job_sections.proofs.Laws.{Contents}
 use Rattle.jobs.specs.Reading.{readingOf, readOf}
 use Rattle.jobs.specs.Reads.{ReadsAs}
 use Rattle.jobs.specs.Refuses.{Refuses}

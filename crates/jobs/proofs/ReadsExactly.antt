@@ -4,14 +4,13 @@
 use Rattle.whole.proofs.Laws.{_≡_, refl, sym, ap, _∙_, subst, List, _++_, append-nil, append-assoc, _↔_, ℕ, _+_, _≤_, arith, length, take, drop, length-append, drop-at}
 use Rattle.digits.proofs.Laws.{System}
 use Rattle.admission.proofs.Laws.{Admitted}
-use Rattle.unary.proofs.Laws.{Opens}
+use Rattle.opening.proofs.Laws.{Opens}
 use Rattle.sections.proofs.Laws.{Exact, reads, refuses}
 use lib.Seq.{take-length}
 use Rattle.sections.specs.Section.{Rules as Kept}
 use Rattle.sections.specs.File.{Says as FileSays}
 use Rattle.jobs.specs.Types.{Verdict, Reads, Refused, Reading}
-use Rattle.jobs.specs.Layout.{Contents, twoBytes, systemBytes, matrixBytes, wordBytes, layoutOf, Bytes, SystemRules, Rules}
-use Rattle.jobs.specs.Sections.{system}
+use Rattle.job_sections.proofs.Laws.{Contents, twoBytes, systemBytes, matrixBytes, wordBytes, layoutOf, Bytes, SystemRules, Rules, system}
 use Rattle.jobs.specs.Reading.{wordStart, readingOf, refused, Parts, job, contentsOf, readOf}
 use Rattle.jobs.specs.Reads.{ReadsAs}
 use Rattle.jobs.specs.Refuses.{Refuses}

@@ -3,10 +3,8 @@ use Rattle.whole.proofs.Laws.{_≡_, refl, sym, ap, _∙_, List, _++_, ℕ, _*_
 use Rattle.digits.proofs.Laws.{filled}
 use Rattle.sections.proofs.Laws.{Lawful, nothing-lawful, then-lawful}
 use Rattle.sections.specs.Section.{Lawful as LawfulSection}
-use Rattle.jobs.specs.Layout.{twoBytes, numbersBytes, rowsOf, Bytes}
-use Rattle.jobs.specs.Sections.{Sixteen, numbersIn, system, matrix, word}
+use Rattle.job_sections.proofs.Laws.{twoBytes, numbersBytes, rowsOf, Bytes, Sixteen, numbersIn, system, matrix, word, numbers-bytes-length, numbers-read, read-numbers, numbers-16}
 use Rattle.jobs.specs.Reading.{job}
-use Rattle.jobs.proofs.Numbers.{numbers-bytes-length, numbers-read, read-numbers, numbers-16}
 use Rattle.jobs.proofs.Judgements.{system-gives, system-given, matrix-gives, matrix-given, rows-length}
 
 -- as many numbers as the bytes have, which are signed 16-bit numbers and have these bytes

@@ -6,10 +6,10 @@ use lib.ListN.{length, replicate}
 use lib.IntN.{ℤ, pos}
 use Rattle.sections.specs.File.{File, nothing, _then_}
 use Rattle.digits.specs.Types.{System}
-use Rattle.unary.specs.Opening.{noMatrix}
+use Rattle.opening.specs.Opening.{noMatrix}
 use Rattle.jobs.specs.Types.{Reads, Refused, Job, Reading}
-use Rattle.jobs.specs.Layout.{Contents}
-use Rattle.jobs.specs.Sections.{system, matrix, word}
+use Rattle.job_sections.specs.Layout.{Contents}
+use Rattle.job_sections.specs.Sections.{system, matrix, word}
 
 -- ---- a file that reads
 

@@ -3,7 +3,7 @@ use mathlib.Core.Path.{_≡_}
 use mathlib.Core.List.{List}
 use Prim.Native.Nat.{ℕ}
 use lib.ListN.{length, take, drop}
-use Rattle.jobs.specs.Layout.{Contents}
+use Rattle.job_sections.specs.Layout.{Contents}
 use Rattle.jobs.specs.Reading.{wordStart, readingOf, readOf}
 
 pub record ReadsAs (file : List ℕ) (c : Contents) : Type 0 where

@@ -4,12 +4,8 @@ use Rattle.jobs.specs.declared.Verdict.the-variants as VVerdict
 use Rattle.jobs.specs.declared.Word as SWord
 use Rattle.jobs.specs.declared.Job as SJob
 use Rattle.jobs.specs.declared.Reading as SReading
-use Rattle.jobs.specs.declared.SystemSection as SSystemSection
-use Rattle.jobs.specs.declared.MatrixSection as SMatrixSection
 pub use EVerdict.{Verdict}
 pub use VVerdict.{Reads, Refused}
 pub use SWord.{Word}
 pub use SJob.{Job}
 pub use SReading.{Reading}
-pub use SSystemSection.{SystemSection}
-pub use SMatrixSection.{MatrixSection}

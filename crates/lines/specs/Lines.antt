@@ -8,8 +8,8 @@ use Rattle.whole.specs.Range.{at}
 use Rattle.text.specs.Text.{bytesOf}
 use Rattle.text.specs.Number.{decimal, signedText}
 use Rattle.text.specs.Line.{lineOf}
-use Rattle.steps.specs.State.{endNumber}
-use Rattle.steps.specs.Types.{Held, Nothing, Digit, State}
+use Rattle.states.specs.State.{endNumber}
+use Rattle.states.specs.Types.{Held, Nothing, Digit, State}
 use Rattle.unary.specs.Types.{Answer}
 
 -- "the held digit or `-`"

@@ -4,8 +4,8 @@ ghost use Prim.Native.Nat.{_+_, _≤_};
 ghost use lib.ListN.{length};
 ghost use Rattle.text.specs.Wrote.{Wrote};
 ghost use Rattle.lines.specs.Lines.{heldText, countsLine, stateLine, answerText, refusedText};
-use steps::Held;
-use steps::State;
+use states::Held;
+use states::State;
 use unary::Answer;
 
 // The first line.
@@ -51,7 +51,7 @@ pub fn put_answer(out: &mut [u8], answer: Answer, output: &[u8]) -> usize
     let n = answer.written.0;
     let state = answer.state;
     let stop = answer.stop;
-    let end = steps::end_number(stop);
+    let end = states::end_number(stop);
     let a = put_counts(out, 0, end, answer.taken.0, n);
     let b = put_state(out, a, state);
     text::put_line(out, b, &output[..n])

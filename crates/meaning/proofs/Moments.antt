@@ -11,8 +11,9 @@ use Rattle.inclusion.proofs.Laws.{included-says, says-included, closed-included
 use Rattle.digits.proofs.Laws.{transformation, interval}
 use Rattle.admission.proofs.Laws.{Digits}
 use Rattle.runs.proofs.Laws.{Deed, nothing, Going, Plan, Each, took-x, gave, follow-each, each-test}
-use Rattle.steps.proofs.Laws.{Held, Nothing, Digit, State, Stop, NotADigit, RangeLeft, HeldDigit, loaded, given, absorbed, Setting, chosen, givenMatrix, absorbedMatrix, planBy, plan, chosen-below, chosen-fits}
-use Rattle.unary.proofs.Laws.{Opens, Start, openOf, opens, hands-out}
+use Rattle.states.proofs.Laws.{Held, Nothing, Digit, State, Stop, NotADigit, RangeLeft, HeldDigit, loaded, given, absorbed}
+use Rattle.steps.proofs.Laws.{Setting, chosen, givenMatrix, absorbedMatrix, planBy, plan, chosen-below, chosen-fits}
+use Rattle.opening.proofs.Laws.{Opens, Start, openOf, opens, hands-out}
 use native.Mathlib.Nat as N
 use Rattle.meaning.specs.Names.{productOf, determinantsOf, EachInItsInterval, HeldInItsInterval, heldDigits}
 use Rattle.meaning.specs.Moments.{Fits, Chooses, Line, loading, holding, Moment, opened, stepped, divisorBy, divisorOf, divisorsOf}

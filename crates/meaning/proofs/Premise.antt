@@ -8,7 +8,7 @@ use Rattle.whole.proofs.Laws.{_≡_, refl, List, [], _∷_, ℕ, zero, suc, ari
 use Rattle.plane.proofs.Laws.{Pair, SamePoint, apply, Closed, scalePair, above-not-0, same-refl, same-sym, same-trans, same-scale, closed-same}
 use Rattle.inclusion.proofs.Laws.{closed?}
 use Rattle.digits.proofs.Laws.{System, fourAt, transformationAt, intervalAt, minus, rowsR, rowsD, systemOf}
-use Rattle.steps.proofs.Laws.{Digit}
+use Rattle.states.proofs.Laws.{Digit}
 use Rattle.meaning.specs.Names.{namedFrom, EachInItsInterval, HeldInItsInterval}
 use Rattle.meaning.proofs.Products.{named-same}
 

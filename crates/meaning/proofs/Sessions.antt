@@ -10,7 +10,8 @@ use Rattle.plane.proofs.Laws.{Pair, apply, multiplyOf, SamePoint, scaleOf, appl
 use Rattle.digits.proofs.Laws.{System}
 use Rattle.admission.proofs.Laws.{Admissible, Digits}
 use Rattle.runs.proofs.Laws.{Supply, spend, Outcome, goes, halts, mostSteps, Course, after, runBy, run, front-written, either}
-use Rattle.steps.proofs.Laws.{State, Stop, Refused, Setting, setting, plain, oneWord}
+use Rattle.states.proofs.Laws.{State, Stop, Refused}
+use Rattle.steps.proofs.Laws.{Setting, setting, plain, oneWord}
 use Rattle.unary.proofs.Laws.{Answer, refusalOf, courseOf, runOf, course-in-range}
 use mathlib.Core.List.{append-cancel-right}
 use native.Mathlib.Nat as N

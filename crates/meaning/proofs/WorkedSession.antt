@@ -9,8 +9,10 @@ use Rattle.inclusion.proofs.Laws.{closed?, same?, included?}
 use Rattle.digits.proofs.Laws.{fourAt, transformationAt, intervalAt, rowsR, systemOf}
 use Rattle.admission.proofs.Laws.{rowVerdict, rowsVerdict, admissionOf, r-admitted}
 use Rattle.runs.proofs.Laws.{follow, runBy, run, judgedRun}
-use Rattle.steps.proofs.Laws.{Nothing, Digit, State, fittingOf}
-use Rattle.unary.proofs.Laws.{openOf, state?, refusalOf, courseOf}
+use Rattle.states.proofs.Laws.{Nothing, Digit, State}
+use Rattle.steps.proofs.Laws.{fittingOf}
+use Rattle.opening.proofs.Laws.{openOf}
+use Rattle.unary.proofs.Laws.{state?, refusalOf, courseOf}
 use Rattle.meaning.specs.Names.{namedFrom, productOf, EachInItsInterval, UpToScale}
 use Rattle.meaning.specs.Session.{Session}
 use Rattle.meaning.proofs.Sessions.{session-product, session-numbers}

@@ -15,10 +15,10 @@ use Rattle.digits.specs.System.{interval}
 use Rattle.runs.specs.Supply.{Supply, Deed}
 use Rattle.runs.specs.Machine.{goes}
 use Rattle.runs.specs.Plan.{Plan, follow}
-use Rattle.steps.specs.Types.{Held, Nothing, Digit, State, Stop}
+use Rattle.states.specs.Types.{Held, Nothing, Digit, State, Stop}
 use Rattle.steps.specs.Step.{Setting, loadPlan, givenMatrix, absorbedMatrix, heldPlan}
-use Rattle.unary.specs.Types.{Opens}
-use Rattle.unary.specs.Opening.{openOf}
+use Rattle.opening.specs.Types.{Opens}
+use Rattle.opening.specs.Opening.{openOf}
 use Rattle.meaning.specs.Names.{productOf, determinantsOf, heldDigits}
 
 -- a digit that may be given out where h is held: "U_b includes X·W_held"

@@ -7,7 +7,7 @@ use Rattle.plane.specs.Plane.{Pair, apply, determinantOf, multiplyOf, Closed}
 use Rattle.plane.specs.Scale.{scaleOf, identityOf}
 use Rattle.digits.specs.Types.{System}
 use Rattle.digits.specs.System.{transformation, interval}
-use Rattle.steps.specs.Types.{Held, Nothing, Digit}
+use Rattle.states.specs.Types.{Held, Nothing, Digit}
 
 -- the number named from the first of some digits on, where t is named by what follows them
 unfoldable pub namedFrom : System → List ℕ → Pair → Pair

@@ -9,9 +9,9 @@ use Rattle.plane.specs.Plane.{Pair, Point, SamePoint, apply, multiplyOf}
 use Rattle.digits.specs.Types.{System}
 use Rattle.admission.specs.Admitted.{Admissible}
 use Rattle.runs.specs.Run.{Course}
-use Rattle.steps.specs.Types.{State, Stop}
-use Rattle.unary.specs.Types.{Opens}
-use Rattle.unary.specs.Opening.{openOf}
+use Rattle.states.specs.Types.{State, Stop}
+use Rattle.opening.specs.Types.{Opens}
+use Rattle.opening.specs.Opening.{openOf}
 use Rattle.unary.specs.Run.{courseOf}
 use Rattle.meaning.specs.Names.{namedFrom, productOf, EachInItsInterval, HeldInItsInterval, heldDigits, UpToScale}
 

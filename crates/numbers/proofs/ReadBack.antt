@@ -3,7 +3,7 @@
 use Rattle.whole.proofs.Laws.{_≡_, refl, ap, _∙_, cond, List, ℕ, _*_, _-_, _/_, _≤_, arith, length, take, replicate, take-at, ℤ, pos, le-ltb, le-leb}
 use Rattle.plane.proofs.Laws.{entries}
 use Rattle.digits.proofs.Laws.{systemOf, filled, joined, rowsR, rowsB, rowsD}
-use Rattle.steps.proofs.Laws.{Held, Nothing, Digit, State}
+use Rattle.states.proofs.Laws.{Held, Nothing, Digit, State}
 use Rattle.numbers.specs.Numbers.{systemFrom, heldNumber, heldFrom, stateNumbers, stateFrom}
 use Rattle.numbers.proofs.Lists.{known}
 

@@ -10,8 +10,8 @@ use Rattle.whole.specs.Range.{at}
 use Rattle.plane.specs.Scale.{entries}
 use Rattle.digits.specs.Types.{System}
 use Rattle.digits.specs.BuiltIn.{filled}
-use Rattle.steps.specs.Types.{Held, Nothing, Digit, State, Stop}
-use Rattle.steps.specs.State.{refused?}
+use Rattle.states.specs.Types.{Held, Nothing, Digit, State, Stop}
+use Rattle.states.specs.State.{refused?}
 
 -- the number that refuses a slice of the wrong length: a number that no rule of document 01 has
 abbrev pub wrongLength : ℕ

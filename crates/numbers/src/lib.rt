@@ -7,14 +7,14 @@ ghost use Prim.Native.Nat.{_%_, _≤_};
 ghost use lib.Dec.{eqb};
 ghost use lib.ListN.{length, take, drop};
 ghost use Rattle.plane.specs.Scale.{entries};
-ghost use Rattle.steps.specs.State.{endNumber};
+ghost use Rattle.states.specs.State.{endNumber};
 ghost use Rattle.numbers.specs.Numbers.{heldNumber, stateNumbers, heldFrom, stateFrom, stateAfter};
 ghost use Rattle.numbers.specs.Job.{readNumber, foundNumbers, afterRead, jobNumbers};
 use digits::System;
 use jobs::Job;
 use jobs::Verdict;
-use steps::Held;
-use steps::State;
+use states::Held;
+use states::State;
 use unary::Answer;
 
 // The number that refuses a slice of the wrong length.
@@ -123,8 +123,8 @@ pub fn put_answer(a: Answer, state: &mut [i64], counts: &mut [usize]) -> u32
     let s = a.state;
     counts[0] = a.taken.0;
     counts[1] = a.written.0;
-    let number = steps::end_number(stop) as u32;
-    if steps::refused(stop) {
+    let number = states::end_number(stop) as u32;
+    if states::refused(stop) {
         return number;
     }
     put_state(s, state);

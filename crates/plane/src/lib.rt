@@ -2,14 +2,12 @@
 // A state's entries lie within ±1,000,000,000 and a digit's numbers within ±100, so the entries of their products and the ends of an image lie within ±200,000,000,000,
 // and no determinant that is formed here leaves 64 bits.
 ghost use mathlib.Core.Path.{_≡_};
-ghost use Prim.Native.Nat.{_<_};
 ghost use mathlib.Core.Bool.{_&&_};
 ghost use lib.Dec.{leb};
 ghost use lib.IntN.{natAbs, _+ℤ_, _*ℤ_};
 ghost use Rattle.whole.specs.Range.{Near, Within};
-ghost use Rattle.whole.specs.Divisor.{gcd, gcd4, divided, Divides4};
 ghost use Rattle.plane.specs.Fits.{Products};
-ghost use Rattle.plane.specs.Plane.{determinantOf, pseudoinverseOf, multiplyOf, imageOf, cancelOf};
+ghost use Rattle.plane.specs.Plane.{determinantOf, pseudoinverseOf, multiplyOf, imageOf};
 ghost use Rattle.plane.specs.Tests.{within?};
 
 // "Its determinant is ad − bc." Of the two ends of an interval, written x0 x1 y0 y1, it is det(x, y).
@@ -64,49 +62,6 @@ pub fn image(m: [i64; 4], w: [i64; 4]) -> [i64; 4]
 {
     let p = multiply(m, [w[0], w[2], w[1], w[3]]);
     [p[0], p[2], p[1], p[3]]
-}
-
-// The greatest common divisor of two numbers, signs apart, by Euclid.
-pub fn divisor_of_two(x: i64, y: i64) -> u64
-    ensures { λ r. ⌜ r ≡ gcd (natAbs x) (natAbs y) ⌝ }
-{
-    whole::gcd(whole::magnitude(x), whole::magnitude(y))
-}
-
-// The greatest common divisor of the four entries. Of any four numbers at all. Most often the first two settle it.
-pub fn divisor(m: [i64; 4]) -> u64
-    ensures { λ r. ⌜ r ≡ gcd4 m ⌝ }
-{
-    let f = divisor_of_two(m[0], m[1]);
-    if f == 1 {
-        return 1;
-    }
-    whole::gcd(f, divisor_of_two(m[2], m[3]))
-}
-
-// The four numbers divided by a divisor of them. Signs stay.
-fn quotients(m: [i64; 4], g: u64) -> [i64; 4]
-    requires { ⌜ (Divides4 g m) × (0 < g) × (g < 9223372036854775808) ⌝ }
-    ensures { λ r. ⌜ r ≡ divided m g ⌝ }
-{
-    [
-        whole::quotient(m[0], g),
-        whole::quotient(m[1], g),
-        whole::quotient(m[2], g),
-        whole::quotient(m[3], g),
-    ]
-}
-
-// "To cancel a matrix, divide it by the greatest common divisor of the four entries. Signs stay." Most products have none but 1, and are not divided.
-pub fn cancel(m: [i64; 4]) -> [i64; 4]
-    requires { ⌜ (Within 200000000000 m) × (0 < gcd4 m) ⌝ }
-    ensures { λ r. ⌜ r ≡ cancelOf m ⌝ }
-{
-    let g = divisor(m);
-    if g == 1 {
-        return m;
-    }
-    quotients(m, g)
 }
 
 // Whether two numbers lie in −b..b.

@@ -1,6 +1,6 @@
 -- What a run leaves, from what it answered (`a`, `out`) and what was written of that (`n`, `new`, `counts`).
 use Rattle.whole.proofs.Laws.{_≡_, ap, _∙_, List, [], _∷_, ℕ, ℤ}
-use Rattle.steps.proofs.Laws.{endNumber}
+use Rattle.states.proofs.Laws.{endNumber}
 use Rattle.unary.proofs.Laws.{Answer, Ran}
 use Rattle.numbers.proofs.Laws.{stateAfter}
 use Rattle.plugin.specs.Calls.{afterRun, ranCall}

@@ -3,7 +3,7 @@
 use Rattle.whole.proofs.Laws.{_≡_, ap, _∙_, List, ℕ, _/_, _%_, arith, le-leb, ℤ, length}
 use Rattle.digits.proofs.Laws.{System, lent, SameDigits, filled-same}
 use Rattle.admission.proofs.Laws.{admissionOf, unused-rows}
-use Rattle.steps.proofs.Laws.{State}
+use Rattle.states.proofs.Laws.{State}
 use Rattle.unary.proofs.Laws.{runOf, same-run}
 use Rattle.numbers.proofs.Laws.{systemFrom}
 

@@ -9,9 +9,9 @@ use Rattle.whole.specs.Refusal.{unlessRefused}
 use Rattle.plane.specs.Scale.{entries}
 use Rattle.digits.specs.Types.{System}
 use Rattle.admission.specs.Admission.{refusalNumber, admissionOf}
-use Rattle.unary.specs.Types.{Start}
-use Rattle.steps.specs.State.{endNumber}
-use Rattle.unary.specs.Opening.{openingNumber, openOf}
+use Rattle.opening.specs.Types.{Start}
+use Rattle.states.specs.State.{endNumber}
+use Rattle.opening.specs.Opening.{openingNumber, openOf}
 use Rattle.unary.specs.Run.{Ran, runOf}
 use Rattle.jobs.specs.Types.{Reading}
 use Rattle.jobs.specs.Reading.{readOf}

@@ -67,10 +67,10 @@ pub extern "C" fn sled_open(matrix: &[i64], state: &mut [i64]) -> u32
     if state.len() != 5 {
         return WRONG_LENGTH;
     }
-    let start = unary::open(numbers::matrix_from(matrix));
+    let start = opening::open(numbers::matrix_from(matrix));
     let opening = start.opening;
     let s = start.state;
-    let number = unary::opening_number(opening);
+    let number = opening::opening_number(opening);
     if number != 0 {
         return number as u32;
     }

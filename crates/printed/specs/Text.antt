@@ -3,7 +3,7 @@ use mathlib.Core.List.{List}
 use Prim.Native.Nat.{ℕ}
 use lib.ListN.{take, drop}
 use Rattle.lines.specs.Lines.{answerText, refusedText}
-use Rattle.unary.specs.Opening.{openOf}
+use Rattle.opening.specs.Opening.{openOf}
 use Rattle.unary.specs.Run.{Ran, runOf}
 use Rattle.jobs.specs.Reading.{readOf}
 use Rattle.jobs.specs.Types.{Verdict, Reads, Refused, Job}

@@ -19,7 +19,7 @@ pub fn respond(file: &[u8], digits: &mut [u8], out: &mut [u8]) -> usize
             let matrix = reading.job.matrix;
             let input = reading.job.input;
             let output = reading.job.output;
-            let start = unary::open(matrix);
+            let start = opening::open(matrix);
             let state = start.state;
             let a = reading.job.word.start;
             let e = a + reading.job.word.length;

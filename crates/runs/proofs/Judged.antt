@@ -1,9 +1,10 @@
 -- A run that is judged first is either refused, and did nothing, or it is the run: `either`, by which every statement on judged runs goes. A run hands back no state
 -- that the next would refuse (`kept`), and a refused call is the same call again.
 use Rattle.whole.proofs.Laws.{_≡_, refl, sym, ap, subst, _∙_, ℕ, zero, suc, unlessRefused}
-use Rattle.runs.specs.Supply.{Supply, spend, join}
-use Rattle.runs.specs.Machine.{Machine, Lawful, Steady}
+use Rattle.runs.specs.Supply.{Supply, spend}
+use Rattle.runs.specs.Machine.{Machine}
 use Rattle.runs.specs.Run.{Course, stopped, followedBy, run, judgedRun}
+use Rattle.runs.specs.Asked.{join, Lawful, Steady}
 use Rattle.runs.proofs.Runs.{behind-nothing, stops-again, cut-anywhere}
 
 module _ {State Stop : Type 0} (m : Machine State Stop) (refused : ℕ → Stop) (judge : State → ℕ) (s : State) (r : Supply) where

@@ -10,9 +10,11 @@ pub use Rattle.runs.proofs.Plans.{follow-each, each-test, follow-halts,
 -- loops of code that make the steps of a run
 pub use Rattle.runs.proofs.Loop.{took-none, took-front, wrote-none, wrote-one, Lent, supply, done, ahead, stepsLeft, Here, here-first, goes-to, Ended, ends-with}
 -- the definitions
-pub use Rattle.runs.specs.Machine.{Going, Halting, Lawful, Outcome, Steady, goes, halts, mostSteps}
+pub use Rattle.runs.specs.Machine.{Outcome, goes, halts, mostSteps}
 pub use Rattle.runs.specs.Plan.{Plan, digit, gave, go, stop, took-x}
-unfoldable pub use Rattle.runs.specs.Plan.{Each, EachStop, follow}
+unfoldable pub use Rattle.runs.specs.Plan.{follow}
 pub use Rattle.runs.specs.Run.{Course, after, stopped}
 unfoldable pub use Rattle.runs.specs.Run.{judgedRun, run, runBy}
-pub use Rattle.runs.specs.Supply.{Deed, Pays, Supply, andThen, cost, join, nothing, spend, written}
+pub use Rattle.runs.specs.Supply.{Deed, Supply, andThen, nothing, spend, written}
+pub use Rattle.runs.specs.Asked.{Going, Halting, Lawful, Steady, Pays, cost, join}
+unfoldable pub use Rattle.runs.specs.Asked.{Each, EachStop}

@@ -3,9 +3,10 @@
 -- `ends-with` what the run gives where a step halts.
 use Rattle.whole.proofs.Laws.{_≡_, refl, sym, ap, subst, _∙_, List, [], _∷_, _++_, append-nil, ℕ, _+_, _*_, _-_, _≤_, _<_, add-one, arith, length, take, drop, set, length-set, length-drop, take-append-drop, length-take-le, take-add, take-append-seam, drop-drop}
 use lib.Seq.{take-suc-set, drop-set-lt}
-use Rattle.runs.specs.Supply.{Supply, Deed, nothing, andThen, spend, Pays, written}
-use Rattle.runs.specs.Machine.{goes, halts, Machine, Lawful}
+use Rattle.runs.specs.Supply.{Supply, Deed, nothing, andThen, spend, written}
+use Rattle.runs.specs.Machine.{goes, halts, Machine}
 use Rattle.runs.specs.Run.{Course, behind, Runs, stops, makes, run}
+use Rattle.runs.specs.Asked.{Pays, Lawful}
 use Rattle.runs.proofs.Spending.{nothing-pays, spend-nothing, pays-both, spend-both, and-nothing, and-then, within}
 use Rattle.runs.proofs.Runs.{behind-nothing, does, only}
 

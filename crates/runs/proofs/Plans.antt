@@ -1,9 +1,10 @@
 -- Whatever plan is followed, what it does can be done and is paid for, and it does the same before more. So a machine that goes by plans is lawful if its plans are
 -- cheap, and steady if more does not change which plan is chosen.
 use Rattle.whole.proofs.Laws.{_≡_, refl, sym, ap, subst, _∙_, Bool, true, false, cond, List, [], _∷_, ℕ, zero, suc, _+_, _-_, _≤_, arith}
-use Rattle.runs.specs.Supply.{Supply, Deed, nothing, andThen, spend, Pays, join, cost}
-use Rattle.runs.specs.Machine.{Outcome, goes, halts, Going, Halting, Does, Lawful, Same, Steady}
-use Rattle.runs.specs.Plan.{Plan, stop, go, byte-x, byte-y, digit, divisor, took-x, took-y, gave, listed, first, with-byte, with-place, follow, Each, EachStop, planned}
+use Rattle.runs.specs.Supply.{Supply, Deed, nothing, andThen, spend}
+use Rattle.runs.specs.Machine.{Outcome, goes, halts}
+use Rattle.runs.specs.Plan.{Plan, stop, go, byte-x, byte-y, digit, divisor, took-x, took-y, gave, listed, first, with-byte, with-place, follow, planned}
+use Rattle.runs.specs.Asked.{Pays, join, cost, Going, Halting, Does, Lawful, Same, Steady, Each, EachStop}
 use Rattle.runs.proofs.Spending.{nothing-pays, pays-both, spend-join, and-nothing, and-then}
 use Rattle.runs.proofs.Runs.{Always}
 

@@ -3,9 +3,10 @@
 -- taken and the digits written allow (`few-steps`); stopped, it stops again (`stops-again`); it may be cut anywhere (`cut-anywhere`); and two machines that make the
 -- same steps make the same runs (`same-runs`). Each is an induction over the steps.
 use Rattle.whole.proofs.Laws.{_≡_, refl, sym, ap, subst, _∙_, ℕ, zero, suc, _+_, _≤_, _<_, add-zero, arith, length, length-append}
-use Rattle.runs.specs.Supply.{Supply, Deed, nothing, andThen, spend, Pays, join, cost}
-use Rattle.runs.specs.Machine.{Outcome, goes, halts, Going, Machine, mostSteps, Does, Lawful, Same, Steady}
+use Rattle.runs.specs.Supply.{Supply, Deed, nothing, andThen, spend}
+use Rattle.runs.specs.Machine.{Outcome, goes, halts, Machine, mostSteps}
 use Rattle.runs.specs.Run.{Course, stopped, behind, followedBy, Runs, stops, makes, after, runBy, run}
+use Rattle.runs.specs.Asked.{Pays, join, cost, Going, Does, Lawful, Same, Steady}
 use Rattle.runs.proofs.Spending.{nothing-pays, spend-nothing, pays-both, spend-both, spend-join, cost-both, and-nothing, and-then}
 
 pub behind-nothing : {State Stop : Type 0} (q : Course State Stop) → behind nothing 0 q ≡ q

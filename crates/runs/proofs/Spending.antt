@@ -1,6 +1,7 @@
 -- Deeds one after the other: they can be done as one, and leave the same.
 use Rattle.whole.proofs.Laws.{_≡_, refl, ap, List, _++_, append-assoc, append-nil, ℕ, _+_, _-_, _≤_, arith, length, drop, length-append, drop-drop, drop-append-le}
-use Rattle.runs.specs.Supply.{Supply, Deed, nothing, andThen, spend, Pays, join, cost}
+use Rattle.runs.specs.Supply.{Supply, Deed, nothing, andThen, spend}
+use Rattle.runs.specs.Asked.{Pays, join, cost}
 
 -- ---- of one list: a front that is taken, and then another
 

@@ -51,24 +51,6 @@ module _ {State Stop : Type 0} where
   follow (digit e g p) r = with-place e (r .room) (first (gave g) (follow p (spend (gave g) r)))
   follow (divisor e g p) r = with-place e (r .list) (first (listed g) (follow p (spend (listed g) r)))
 
-  -- R holds wherever a plan goes on, behind a, of the state and of what was done: whatever bytes it finds
-  unfoldable pub Each : (State → Deed → Type 0) → Deed → Plan State Stop → Type 0
-  Each R a (stop e) = Unit {0}
-  Each R a (go t) = R t a
-  Each R a (byte-x e k) = (b : ℕ) → Each R (andThen a (took-x b)) (k b)
-  Each R a (byte-y e k) = (b : ℕ) → Each R (andThen a (took-y b)) (k b)
-  Each R a (digit e g p) = Each R (andThen a (gave g)) p
-  Each R a (divisor e g p) = Each R (andThen a (listed g)) p
-
-  -- R holds of every word with which a plan may stop
-  unfoldable pub EachStop : (Stop → Type 0) → Plan State Stop → Type 0
-  EachStop R (stop e) = R e
-  EachStop R (go t) = Unit {0}
-  EachStop R (byte-x e k) = R e × ((b : ℕ) → EachStop R (k b))
-  EachStop R (byte-y e k) = R e × ((b : ℕ) → EachStop R (k b))
-  EachStop R (digit e g p) = R e × EachStop R p
-  EachStop R (divisor e g p) = R e × EachStop R p
-
   -- a machine that goes by plans: the plan may be chosen by the state and by what lies ahead
   abbrev pub planned : (State → Supply → Plan State Stop) → (State → ℕ) → Stop → Machine State Stop
   planned plan held idle = record { step = λ s r. follow (plan s r) r; held = held; idle = idle }

@@ -1,7 +1,6 @@
 -- What lies before a run, and what it does. A run reads the bytes of a word, or of two, and writes digits, and the divisors of its steps, into lists that are lent.
-use mathlib.Core.Path.{_≡_}
 use mathlib.Core.List.{List, [], _++_}
-use Prim.Native.Nat.{ℕ, _+_, _*_, _-_, _≤_}
+use Prim.Native.Nat.{ℕ, _-_}
 use lib.ListN.{length, drop}
 
 -- what lies before a run: the bytes of each word that are not taken (a run over one word has none in y), and the places that are free for digits and for divisors
@@ -27,21 +26,6 @@ andThen d e = record { x = d .x ++ e .x; y = d .y ++ e .y; digits = d .digits ++
 -- what a deed leaves
 abbrev pub spend : Deed → Supply → Supply
 spend d r = record { x = drop (length (d .x)) (r .x); y = drop (length (d .y)) (r .y); room = r .room - length (d .digits); list = r .list - length (d .divisors) }
-
--- a deed that can be done: the bytes taken are the first that lie there, and there is room
-pub record Pays (d : Deed) (r : Supply) : Type 0 where
-  pub x : d .x ++ drop (length (d .x)) (r .x) ≡ r .x
-  pub y : d .y ++ drop (length (d .y)) (r .y) ≡ r .y
-  pub room : length (d .digits) ≤ r .room
-  pub list : length (d .divisors) ≤ r .list
-
--- more bytes behind those that are there, and more places
-abbrev pub join : Supply → Supply → Supply
-join r more = record { x = r .x ++ more .x; y = r .y ++ more .y; room = r .room + more .room; list = r .list + more .list }
-
--- two for each byte taken, one for each digit given out
-abbrev pub cost : Deed → ℕ
-cost d = 2 * length (d .x) + 2 * length (d .y) + length (d .digits)
 
 -- a lent list afterwards: what was written, and behind it what stood there
 abbrev pub written : List ℕ → List ℕ → List ℕ

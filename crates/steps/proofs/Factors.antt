@@ -3,7 +3,7 @@
 use Rattle.whole.proofs.Laws.{ℕ, List, ℤ, within-le}
 use Rattle.plane.proofs.Laws.{pseudoinverseOf, det-above-multiply, det-above-pseudoinverse, divisor-above, multiply-within, pseudoinverse-within}
 use Rattle.digits.proofs.Laws.{transformationAt}
-use Rattle.steps.specs.Types.{State}
+use Rattle.states.proofs.Laws.{State}
 use Rattle.steps.specs.Made.{Factors, WorksWith}
 
 -- X·F

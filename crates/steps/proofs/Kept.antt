@@ -1,14 +1,13 @@
 -- Every step keeps the rules for a state, and every digit that it gives out is one of the output system's: both hold wherever the plan goes on. Loading keeps X and
 -- holds a byte that was tested; giving and absorbing multiply X with a digit's matrix, whose determinant is above 0 (so the product's is), and cancel, after which the
 -- greatest common divisor is 1 and the sign of the determinant is the same (`cancel-says`); the range was tested.
-use Rattle.whole.proofs.Laws.{_≡_, refl, true, List, [], _∷_, _++_, Option, none, some, ℕ, zero, suc, _<_, arith, ltb-true, ltb, length, getD, ℤ, Within, first-found}
-use Rattle.plane.proofs.Laws.{imageOf, cancelOf, DetAbove, within?, within-says, cancel-says, det-above-multiply, det-above-pseudoinverse}
+use Rattle.whole.proofs.Laws.{_≡_, refl, true, List, [], _∷_, _++_, Option, none, some, ℕ, zero, suc, _<_, arith, ltb-true, ltb, length, getD, first-found}
+use Rattle.plane.proofs.Laws.{imageOf, cancelOf, within?, within-says, det-above-multiply, det-above-pseudoinverse}
 use Rattle.inclusion.proofs.Laws.{included?}
 use Rattle.digits.proofs.Laws.{interval}
 use Rattle.admission.proofs.Laws.{Digits}
 use Rattle.runs.proofs.Laws.{Supply, Deed, nothing, andThen, Going, Each, took-x, gave, follow-each, each-test}
-use Rattle.steps.specs.Types.{Held, Nothing, Digit, State, NotADigit, RangeLeft}
-use Rattle.steps.specs.State.{loaded, given, absorbed, HeldDigit, StateRules}
+use Rattle.states.proofs.Laws.{cancelled-rules, Held, Nothing, Digit, State, NotADigit, RangeLeft, loaded, given, absorbed, HeldDigit, StateRules}
 use Rattle.steps.specs.Step.{Setting, fits?, fittingOf, chosen, givenMatrix, absorbedMatrix, heldPlan, planBy, plan, plain}
 
 -- the digit that is chosen is one of the output system's, and it fits
@@ -34,13 +33,6 @@ pub below-at : (n : ℕ) (ds : List ℕ) (p : ℕ) → Below n ds → p < length
 below-at n [] p b h = absurd (omega arith)
 below-at n (d ∷ ds) zero b h = b .0
 below-at n (d ∷ ds) (suc p) b h = below-at n ds p (b .1) (omega arith)
-
--- ---- a matrix that is cancelled keeps the rules for X, if its determinant was above 0 and it ends in the range
-
-pub cancelled-rules : (n : ℕ) (s : State) (m : List ℤ) → s .matrix ≡ cancelOf m → DetAbove m → Within 1000000000 (s .matrix) → HeldDigit n (s .held) → StateRules n s
-cancelled-rules n s m e d w k =
-    let c = cancel-says m (d .above) in
-    record { cancelled = rw e (c .lowest); above = rw e (c .keeps .above); in-range = w; held-digit = k }
 
 -- ---- wherever the plan goes on
 

@@ -2,8 +2,7 @@
 use Rattle.whole.proofs.Laws.{_≡_, refl, _⊎_, inl, inr, Option, none, some, ℕ, suc, _+_, _≤_, arith, ltb}
 use Rattle.plane.proofs.Laws.{cancelOf, within?}
 use Rattle.runs.proofs.Laws.{Supply, Deed, nothing, cost, Halting, Lawful, Steady, Each, EachStop, took-x, gave, Always, each-test, follow-halts, stop-test, Cheap, planned-lawful, steady-always}
-use Rattle.steps.specs.Types.{Held, Nothing, Digit, State, Stop, InputUsed, NotADigit, RangeLeft}
-use Rattle.steps.specs.State.{loaded, given, absorbed, heldCount, endNumber}
+use Rattle.states.proofs.Laws.{Held, Nothing, Digit, State, Stop, InputUsed, NotADigit, RangeLeft, loaded, given, absorbed, heldCount, endNumber}
 use Rattle.steps.specs.Step.{Setting, chosen, givenMatrix, absorbedMatrix, heldPlan, planBy, plan, plain}
 
 abbrev held : State → ℕ

@@ -3,12 +3,11 @@
 -- the step is one of those that crates/runs speaks of
 pub use Rattle.steps.proofs.Lawful.{lawful, steady, StepEnd, step-stops}
 -- what every step keeps; the chosen digit
-pub use Rattle.steps.proofs.Kept.{chosen-below, chosen-fits, Below, below-at, cancelled-rules, Kept, step-keeps}
+pub use Rattle.steps.proofs.Kept.{chosen-below, chosen-fits, Below, below-at, Kept, step-keeps}
 -- numbers of digits that a system hasn't got change no step
 pub use Rattle.steps.proofs.SamePlan.{same-plan, step-holds}
 -- the definitions
 pub use Rattle.steps.specs.Made.{Follows, Ready, StaysBy, Usable, outcomeBy}
-pub use Rattle.steps.specs.State.{HeldDigit, StateRules, absorbed, endNumber, given, heldCount, loaded}
 pub use Rattle.steps.specs.Step.{Setting, absorbedMatrix, chosen, givenMatrix, heldPlan, oneWord, plain, plan, planBy, setting}
 unfoldable pub use Rattle.steps.specs.Step.{fittingOf}
-pub use Rattle.steps.specs.Types.{Absorb, Digit, Give, Halt, Held, Kind, Load, Move, NotADigit, Nothing, RangeLeft, Refused, State, Stop}
+pub use Rattle.steps.specs.Types.{Absorb, Give, Halt, Kind, Load, Move}

@@ -3,8 +3,8 @@ use Rattle.whole.proofs.Laws.{_≡_, refl, sym, Bool, true, false, cond, List, 
 use Rattle.plane.proofs.Laws.{within?}
 use Rattle.runs.proofs.Laws.{Supply, goes, halts, stop, go, digit, took-x, follow}
 use lib.Seq.{drop-cons}
-use Rattle.steps.specs.Types.{State, InputUsed, NoRoom, NotADigit, RangeLeft, Kind, Load, Give, Absorb, Move}
-use Rattle.steps.specs.State.{loaded}
+use Rattle.states.proofs.Laws.{State, InputUsed, NoRoom, NotADigit, RangeLeft, loaded}
+use Rattle.steps.specs.Types.{Kind, Load, Give, Absorb, Move}
 use Rattle.steps.specs.Step.{oneWord, ranged, loadPlan}
 use Rattle.steps.specs.Made.{move, halt, Follows}
 

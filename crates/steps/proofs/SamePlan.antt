@@ -6,8 +6,7 @@ use Rattle.plane.proofs.Laws.{multiplyOf, pseudoinverseOf, imageOf, cancelOf, w
 use Rattle.inclusion.proofs.Laws.{included?}
 use Rattle.digits.proofs.Laws.{SameDigits}
 use Rattle.runs.proofs.Laws.{Supply, nothing, Going, Each, digit, took-x, gave, follow-each, each-test}
-use Rattle.steps.specs.Types.{Held, Nothing, Digit, State, NoRoom, NotADigit, RangeLeft}
-use Rattle.steps.specs.State.{loaded, given, absorbed, HeldDigit}
+use Rattle.states.proofs.Laws.{Held, Nothing, Digit, State, NoRoom, NotADigit, RangeLeft, loaded, given, absorbed, HeldDigit}
 use Rattle.steps.specs.Step.{Setting, ranged, loadPlan, fits?, fittingOf, chosen, givenMatrix, absorbedMatrix, heldPlan, planBy, plan, plain}
 use Rattle.steps.proofs.Kept.{chosen-below}
 

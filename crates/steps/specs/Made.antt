@@ -15,8 +15,9 @@ use Rattle.admission.specs.Admitted.{Digit as IsDigit, Digits}
 use Rattle.runs.specs.Supply.{Supply, nothing}
 use Rattle.runs.specs.Machine.{Outcome, goes, halts}
 use Rattle.runs.specs.Plan.{Plan, took-x, gave, follow}
-use Rattle.steps.specs.Types.{State, Stop, Kind, Load, Give, Absorb, Halt, Move, Fitting, At, Missing}
-use Rattle.steps.specs.State.{StateRules}
+use Rattle.states.specs.Types.{State, Stop}
+use Rattle.steps.specs.Types.{Kind, Load, Give, Absorb, Halt, Move, Fitting, At, Missing}
+use Rattle.states.specs.State.{StateRules}
 use Rattle.steps.specs.Step.{Setting}
 
 -- ---- a step that the code made

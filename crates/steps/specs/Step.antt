@@ -16,8 +16,8 @@ use Rattle.digits.specs.System.{transformation, interval}
 use Rattle.runs.specs.Supply.{Supply}
 use Rattle.runs.specs.Machine.{Machine}
 use Rattle.runs.specs.Plan.{Plan, stop, go, byte-x, digit, planned}
-use Rattle.steps.specs.Types.{Held, Nothing, Digit, State, Stop, InputUsed, NoRoom, NotADigit, RangeLeft}
-use Rattle.steps.specs.State.{loaded, given, absorbed, heldCount}
+use Rattle.states.specs.Types.{Held, Nothing, Digit, State, Stop, InputUsed, NoRoom, NotADigit, RangeLeft}
+use Rattle.states.specs.State.{loaded, given, absorbed, heldCount}
 
 -- what a run is given and never changes
 pub record Setting : Type 0 where

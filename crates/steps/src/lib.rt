@@ -1,5 +1,4 @@
-// One step of the unary algorithm: document 01's section "The step", its five lines, ends 0, 20, 21 and 22.
-// Public: `State`, `Held`, `Stop` and `end_number`. The rest is what a run is made of, for our crates above.
+// One step of the unary algorithm: document 01's section "The step", its five lines. For the crate `unary`; nothing here is for plug-ins.
 ghost use mathlib.Core.Path.{_≡_};
 ghost use mathlib.Core.Bool.{cond};
 ghost use mathlib.Core.List.{List};
@@ -10,96 +9,14 @@ ghost use Rattle.plane.specs.Plane.{multiplyOf, cancelOf};
 ghost use Rattle.plane.specs.Tests.{within?};
 ghost use Rattle.digits.specs.System.{lent};
 ghost use Rattle.runs.specs.Supply.{Supply};
-ghost use Rattle.steps.specs.Types.{RangeLeft};
-ghost use Rattle.steps.specs.State.{endNumber, refused?, opened as openedOf, loaded as loadedOf, given as givenOf, absorbed as absorbedOf};
+ghost use Rattle.states.specs.Types.{RangeLeft};
 ghost use Rattle.steps.specs.Step.{setting, oneWord, fittingOf, loadPlan, givePlan, absorbPlan, emitPlan, plan};
 ghost use Rattle.steps.specs.Made.{move, halt, Follows, fitting, Factors, WorksWith, Usable, Ready};
+use states::Held;
+use states::State;
+use states::Stop;
 
-// A digit that was taken and is not yet absorbed, or none.
-pub enum Held {
-    Nothing,
-    Digit(u8),
-}
-
-// What a session keeps between two calls. Only the four functions below build one, and the C boundary.
-pub struct State {
-    pub matrix: [i64; 4],
-    pub held: Held,
-}
-
-// "X is M cancelled, nothing held": of the cancelled matrix.
-pub fn opened(matrix: [i64; 4]) -> State
-    ensures { λ r. ⌜ r ≡ openedOf matrix ⌝ }
-{
-    State {
-        matrix,
-        held: Held::Nothing,
-    }
-}
-
-// "take the byte as the held digit. X stays."
-fn loaded(s: State, digit: u8) -> State
-    ensures { λ r. ⌜ r ≡ loadedOf s digit ⌝ }
-{
-    let matrix = s.matrix;
-    State {
-        matrix,
-        held: Held::Digit(digit),
-    }
-}
-
-// A new X, where a digit is given out.
-fn given(s: State, matrix: [i64; 4]) -> State
-    ensures { λ r. ⌜ r ≡ givenOf s matrix ⌝ }
-{
-    let held = s.held;
-    State { matrix, held }
-}
-
-// A new X "and nothing is held".
-fn absorbed(_s: State, matrix: [i64; 4]) -> State
-    ensures { λ r. ⌜ r ≡ absorbedOf «_s» matrix ⌝ }
-{
-    State {
-        matrix,
-        held: Held::Nothing,
-    }
-}
-
-// Why a run stopped; `endNumber` gives document 01's number.
-pub enum Stop {
-    InputUsed,
-    NoRoom,
-    NotADigit,
-    RangeLeft,
-    Refused(u8),
-}
-
-// Document 01's number for the way in which a run stopped.
-pub fn end_number(stop: Stop) -> u8
-    ensures { λ r. ⌜ r ≡ endNumber stop ⌝ }
-{
-    match stop {
-        Stop::InputUsed => 0,
-        Stop::NoRoom => 20,
-        Stop::NotADigit => 21,
-        Stop::RangeLeft => 22,
-        Stop::Refused(number) => number,
-    }
-}
-
-pub fn refused(stop: Stop) -> bool
-    ensures { λ r. ⌜ r ≡ refused? stop ⌝ }
-{
-    match stop {
-        Stop::InputUsed => false,
-        Stop::NoRoom => false,
-        Stop::NotADigit => false,
-        Stop::RangeLeft => false,
-        Stop::Refused(_) => true,
-    }
-}
-
+// What one step does.
 pub enum Kind {
     Load(u8),
     Give(u8),
@@ -125,7 +42,7 @@ fn load(count: usize, s: State, input: &[u8], i: usize) -> Move
     if i < input.len() {
         let b = input[i];
         if (b as usize) < count {
-            let t = loaded(s, b);
+            let t = states::loaded(s, b);
             return Move {
                 kind: Kind::Load(b),
                 state: t,
@@ -175,7 +92,7 @@ fn product(m: [i64; 4], n: [i64; 4]) -> [i64; 4]
     requires { ⌜ Factors m n ⌝ }
     ensures { λ r. ⌜ r ≡ cancelOf (multiplyOf m n) ⌝ }
 {
-    plane::cancel(plane::multiply(m, n))
+    cancelling::cancel(plane::multiply(m, n))
 }
 
 // Line 4, its second half: the digit b is given out, if a place is free.
@@ -191,7 +108,7 @@ fn give(rows: &[i16], s: State, b: u8, free: usize) -> Move
     }
     let x = s.matrix;
     let g = digits::transformation(rows, b as usize);
-    let t = given(s, product(plane::pseudoinverse(g), x));
+    let t = states::given(s, product(plane::pseudoinverse(g), x));
     in_range(s, Kind::Give(b), t)
 }
 
@@ -202,7 +119,7 @@ fn absorb(rows: &[i16], s: State, h: u8) -> Move
 {
     let x = s.matrix;
     let f = digits::transformation(rows, h as usize);
-    let t = absorbed(s, product(x, f));
+    let t = states::absorbed(s, product(x, f));
     in_range(s, Kind::Absorb, t)
 }
 

@@ -1,16 +1,16 @@
 // What the test programs call: each function here makes the calls of one case and prints what was answered.
 use digits::System;
-use steps::State;
+use states::State;
 
 pub fn admission(s: System) {
     test_output::byte(admission::refusal_number(admission::admit(s)));
 }
 
 pub fn opening(m: [i64; 4]) {
-    let r = unary::open(m);
+    let r = opening::open(m);
     let v = r.opening;
     let s = r.state;
-    test_output::byte(unary::opening_number(v));
+    test_output::byte(opening::opening_number(v));
     test_output::state(s);
 }
 

@@ -1,7 +1,7 @@
 // Stored cases over the library's public functions, one line each: runs, sessions, openings, and what is refused. The cases are in the file stdin beside src/, and stdout
 // has what must be printed; expected.py writes both, and computes the lines in another way.
-use steps::Held;
-use steps::State;
+use states::Held;
+use states::State;
 
 // A run: two systems, a state, a word, and a room as the bytes that stand there before.
 fn run(kind: u8, before: State) -> State {

@@ -4,8 +4,8 @@ ghost use Rattle.io.specs.Counts.{Counts};
 use digits::System;
 use libc::STDIN_FILENO;
 use libc::STDOUT_FILENO;
-use steps::Held;
-use steps::State;
+use states::Held;
+use states::State;
 
 fn wide(b: u8) -> u64
     ensures { λ r. ⌜ r < 256 ⌝ }
@@ -97,7 +97,7 @@ pub fn state(before: State) -> State {
 }
 
 fn opened(m: [i64; 4]) -> State {
-    let r = unary::open(m);
+    let r = opening::open(m);
     let s = r.state;
     s
 }

@@ -1,9 +1,9 @@
 // How the test programs print an answer: document 01's number, the counts, a state as its matrix and its held digit or `-`, and every byte of an output as it is
 // afterwards, so that a byte that was to stay can be seen to have stayed.
 use libc::STDOUT_FILENO;
-use steps::Held;
-use steps::State;
-use steps::Stop;
+use states::Held;
+use states::State;
+use states::Stop;
 use unary::Answer;
 
 pub fn text(t: &[u8]) {
@@ -47,7 +47,7 @@ pub fn state(s: State) {
 }
 
 fn end(e: Stop) {
-    byte(steps::end_number(e));
+    byte(states::end_number(e));
 }
 
 // How a run ended, how many bytes it took and digits it wrote, and the state that it left.

@@ -4,7 +4,8 @@
 use Rattle.whole.proofs.Laws.{_≡_, sym, ap, _∙_, List, [], _++_, ℕ, _-_, _≤_, arith, length, take, drop, length-append, length-drop}
 use Rattle.digits.proofs.Laws.{System}
 use Rattle.runs.proofs.Laws.{Supply, Deed, spend, join, written, Course, judgedRun, behind-unchanged, front-written, written-both, judged-stops-again, judged-cut-anywhere}
-use Rattle.steps.proofs.Laws.{State, Stop, Refused, setting, plain, oneWord, lawful, steady}
+use Rattle.states.proofs.Laws.{State, Stop, Refused}
+use Rattle.steps.proofs.Laws.{setting, plain, oneWord, lawful, steady}
 use lib.Seq.{drop-nil}
 use Rattle.runs.specs.Run as course
 use Rattle.unary.specs.Judging.{refusalOf}

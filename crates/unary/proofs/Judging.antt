@@ -5,7 +5,8 @@ use Rattle.whole.proofs.Laws.{_≡_, refl, Bool, true, false, cond, _&&_, _⊎_
 use Rattle.plane.proofs.Laws.{determinantOf, within?, lowest?, within-says, says-within}
 use Rattle.digits.proofs.Laws.{System, Stored}
 use Rattle.admission.proofs.Laws.{Admitted, refusalNumber, admissionOf, SystemNumber, number-0, admission-number, admitted-few, admitted-digits}
-use Rattle.steps.proofs.Laws.{Held, Nothing, Digit, State, HeldDigit, StateRules, Setting, Usable, Ready}
+use Rattle.states.proofs.Laws.{Held, Nothing, Digit, State, HeldDigit, StateRules}
+use Rattle.steps.proofs.Laws.{Setting, Usable, Ready}
 use Rattle.unary.specs.Judging.{heldDigit?, state?, refusalOf}
 
 -- ---- the test of refusal 12

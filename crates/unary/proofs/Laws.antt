@@ -1,7 +1,6 @@
 -- What the crates above may use of this one: `use Rattle.unary.proofs.Laws.{..}`.
 
 -- opening
-pub use Rattle.unary.proofs.OpeningSays.{opening-says, opens, hands-out, opened-rules}
 -- what is judged before any step
 pub use Rattle.unary.proofs.Judging.{state-says, Accepted, accepted, RefusalNumber, refusal-number}
 -- runs
@@ -9,11 +8,9 @@ pub use Rattle.unary.proofs.Runs.{accepted-again, CourseInRange, course
 pub use Rattle.unary.proofs.Again.{stops-again, cut-anywhere}
 pub use Rattle.unary.proofs.SameRun.{same-course, same-run}
 -- no second answer fits
-pub use Rattle.unary.proofs.OneAnswer.{one-opening, one-opening-sentence, RunPromise, one-run}
+pub use Rattle.unary.proofs.OneAnswer.{RunPromise, one-run}
 -- the definitions
 unfoldable pub use Rattle.unary.specs.Judging.{refusalOf, state?}
-pub use Rattle.unary.specs.Opening.{OpeningCase, openingNumber, openingOf, startOf}
-unfoldable pub use Rattle.unary.specs.Opening.{openOf}
 pub use Rattle.unary.specs.Run.{Ran}
 unfoldable pub use Rattle.unary.specs.Run.{courseOf, runOf, stepsOf}
-pub use Rattle.unary.specs.Types.{Answer, NotAbove, Opening, Opens, OutOfRange, Start}
+pub use Rattle.unary.specs.Types.{Answer}

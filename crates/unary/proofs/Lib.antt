@@ -1,5 +1,4 @@
 -- The unary algorithm, as theorems. Laws is the front door.
---   OpeningSays each answer of opening is given exactly in its case; the opened state keeps the rules
 --   Judging     what is judged before any step: accepted, the numbers of refusal, the test of refusal 12
 --   Runs        in-range, written-only, refused-untouched, few-steps
 --   Again       a stopped run stops again; a run may be cut anywhere, in its input and in its room
@@ -7,7 +6,6 @@
 --   OneAnswer   no second answer fits
 --   Turn        for the loop: a turn of it is a step of the run
 -- The folders prove the functions of src/lib.rt, each by its name.
-mod OpeningSays
 mod Judging
 mod Runs
 mod Again

@@ -8,7 +8,8 @@ use Rattle.whole.proofs.Laws.{_≡_, refl, ap, subst, List, _⊎_, inl, inr, �
 use Rattle.digits.proofs.Laws.{System}
 use Rattle.admission.proofs.Laws.{admitted-digits}
 use Rattle.runs.proofs.Laws.{Supply, nothing, spend, Pays, cost, Halting, Course, stopped, run, within, nothing-pays, behind-unchanged, length-written, runs, paid, keeps, last-step, either, accepted-run, refused-run}
-use Rattle.steps.proofs.Laws.{Nothing, State, Stop, Refused, StateRules, heldCount, endNumber, Setting, setting, plain, oneWord, lawful, StepEnd, step-stops, Below, below-at, Kept, step-keeps}
+use Rattle.states.proofs.Laws.{Nothing, State, Stop, Refused, StateRules, heldCount, endNumber}
+use Rattle.steps.proofs.Laws.{Setting, setting, plain, oneWord, lawful, StepEnd, step-stops, Below, below-at, Kept, step-keeps}
 use Rattle.runs.proofs.Laws as every
 use Rattle.unary.specs.Judging.{refusalOf}
 use Rattle.unary.specs.Run.{Ran, courseOf, leaves, runOf, stepsOf, runSteps}

@@ -4,7 +4,8 @@ use Rattle.whole.proofs.Laws.{_≡_, sym, ap, _∙_, cond, List, ℕ, length, u
 use Rattle.digits.proofs.Laws.{System, SameDigits}
 use Rattle.admission.proofs.Laws.{refusalNumber, admitted-few, unused-rows}
 use Rattle.runs.proofs.Laws.{Plan, follow, Course, same-runs, either, accepted-run, refused-run}
-use Rattle.steps.proofs.Laws.{State, Stop, Refused, HeldDigit, setting, plain, oneWord, lawful, same-plan, step-holds}
+use Rattle.states.proofs.Laws.{State, Stop, Refused, HeldDigit}
+use Rattle.steps.proofs.Laws.{setting, plain, oneWord, lawful, same-plan, step-holds}
 use Rattle.unary.specs.Judging.{state?, refusalOf}
 use Rattle.unary.specs.Run.{courseOf, leaves, runOf}
 use Rattle.unary.proofs.Judging.{accepted}

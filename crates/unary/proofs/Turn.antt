@@ -1,7 +1,8 @@
 -- A turn of the loop is a step of the run, in the loop's variables: i bytes taken, o digits written. One law for each kind of step.
 use Rattle.whole.proofs.Laws.{_≡_, refl, sym, ap, subst, _∙_, List, [], _∷_, ℕ, _+_, _-_, _<_, arith, length, drop, set, length-drop, length-take-le}
 use Rattle.runs.proofs.Laws.{Supply, Deed, nothing, andThen, Pays, written, goes, Going, took-x, gave, within, does, Lent, took-none, took-front, wrote-none, wrote-one}
-use Rattle.steps.proofs.Laws.{State, Stop, Kind, Load, Give, Absorb, Halt, Move, StateRules, Setting, plan, plain, oneWord, outcomeBy, StaysBy, Follows, Ready, lawful, Kept, step-keeps}
+use Rattle.states.proofs.Laws.{State, Stop, StateRules}
+use Rattle.steps.proofs.Laws.{Kind, Load, Give, Absorb, Halt, Move, Setting, plan, plain, oneWord, outcomeBy, StaysBy, Follows, Ready, lawful, Kept, step-keeps}
 use Rattle.runs.proofs.Laws as loop
 use Rattle.unary.specs.Run.{stepsOf}
 

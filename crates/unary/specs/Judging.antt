@@ -8,7 +8,7 @@ use Rattle.whole.specs.Refusal.{unlessRefused}
 use Rattle.plane.specs.Plane.{determinantOf}
 use Rattle.plane.specs.Tests.{within?, lowest?}
 use Rattle.admission.specs.Admission.{refusalNumber, admissionOf}
-use Rattle.steps.specs.Types.{Held, Nothing, Digit, State}
+use Rattle.states.specs.Types.{Held, Nothing, Digit, State}
 use Rattle.steps.specs.Step.{Setting}
 
 -- the rules for a state (`StateRules`, crates/steps/specs/State.antt) as a test: what refusal 12 is about

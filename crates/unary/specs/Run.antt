@@ -5,7 +5,7 @@ use lib.ListN.{length, take, drop}
 use Rattle.digits.specs.Types.{System}
 use Rattle.runs.specs.Supply.{written}
 use Rattle.runs.specs.Run.{Course, run, judgedRun}
-use Rattle.steps.specs.Types.{State, Stop, Refused}
+use Rattle.states.specs.Types.{State, Stop, Refused}
 use Rattle.steps.specs.Step.{Setting, setting, plain, oneWord}
 use Rattle.unary.specs.Types.{Answer}
 use Rattle.unary.specs.Judging.{refusalOf}

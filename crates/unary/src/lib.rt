@@ -1,41 +1,16 @@
-// The unary algorithm: document 01's section "The step", refusals 6, 11 and 12. Opening, judging, and `run` (the steps themselves: crates/steps).
-// Public: `open` and `run` with the types of their answers. The rest is what our other crates call.
+// The unary algorithm: document 01's section "The step", refusal 12. Judging, and `run` (opening: crates/opening; the steps themselves: crates/steps).
+// Public: `run` with the type of its answer. The rest is what our other crates call.
 ghost use mathlib.Core.Path.{_≡_};
 ghost use Rattle.digits.specs.System.{lent, Stored};
 ghost use Rattle.steps.specs.Step.{setting};
 ghost use Rattle.steps.specs.Made.{Ready};
-ghost use Rattle.unary.specs.Opening.{openingNumber, openingOf, openOf};
 ghost use Rattle.unary.specs.Judging.{heldDigit?, state?, refusalOf};
 ghost use Rattle.unary.specs.Run.{stepsOf, runOf};
 use digits::System;
-use steps::Held;
+use states::Held;
+use states::State;
+use states::Stop;
 use steps::Kind;
-use steps::State;
-use steps::Stop;
-
-// What opening answers; `openingNumber` gives document 01's number.
-pub enum Opening {
-    Opens,
-    OutOfRange,
-    NotAbove,
-}
-
-// Document 01's number for an answer of opening, and 0 where it opens.
-pub fn opening_number(v: Opening) -> u8
-    ensures { λ r. ⌜ r ≡ openingNumber v ⌝ }
-{
-    match v {
-        Opening::Opens => 0,
-        Opening::OutOfRange => 6,
-        Opening::NotAbove => 11,
-    }
-}
-
-// An opened session, or the refusal with nothing in the state's place.
-pub struct Start {
-    pub opening: Opening,
-    pub state: State,
-}
 
 // The two counts, kept apart: the source's input pointer and its output pointer.
 pub struct Taken(pub usize);
@@ -47,35 +22,6 @@ pub struct Answer {
     pub taken: Taken,
     pub written: Written,
     pub state: State,
-}
-
-// "Opening: 6, then 11." Of any four numbers at all.
-pub fn opening_of(m: [i64; 4]) -> Opening
-    ensures { λ r. ⌜ r ≡ openingOf m ⌝ }
-{
-    if !plane::within(m, 1000) {
-        return Opening::OutOfRange;
-    }
-    if plane::determinant(m) <= 0 {
-        return Opening::NotAbove;
-    }
-    Opening::Opens
-}
-
-// "Opening takes M with entries in −1000..1000 and determinant above 0; X is M cancelled, nothing held." Of any four numbers at all.
-pub fn open(m: [i64; 4]) -> Start
-    ensures { λ r. ⌜ r ≡ openOf m ⌝ }
-{
-    let opening = opening_of(m);
-    if opening_number(opening) != 0 {
-        let none = steps::opened([0; 4]);
-        return Start {
-            opening,
-            state: none,
-        };
-    }
-    let state = steps::opened(plane::cancel(m));
-    Start { opening, state }
 }
 
 // Whether the held digit, if there is one, is one of n.
@@ -99,7 +45,7 @@ fn state_kept(n: usize, s: State) -> bool
     if plane::determinant(x) <= 0 {
         return false;
     }
-    if plane::divisor(x) != 1 {
+    if cancelling::divisor(x) != 1 {
         return false;
     }
     let h = s.held;

@@ -1,6 +1,6 @@
 -- Tests of equality, of whole numbers, of lists and of held digits, and that each says so.
 use Rattle.whole.proofs.Laws.{_≡_, refl, ap, ap₂, Bool, true, false, _&&_, false≢true, List, [], _∷_, eqb-true, eqb, ℤ, pos, negsuc, both-true}
-use Rattle.steps.proofs.Laws.{Held, Nothing, Digit}
+use Rattle.states.proofs.Laws.{Held, Nothing, Digit}
 
 abbrev pub sameNumber? : ℤ → ℤ → Bool
 sameNumber? (pos a) (pos b) = eqb a b

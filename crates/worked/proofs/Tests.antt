@@ -4,8 +4,9 @@ use Rattle.plane.proofs.Laws.{det, left, right, Interval}
 use Rattle.inclusion.proofs.Laws.{closed?, included?, included-says, not-included-says, closed-says}
 use Rattle.digits.proofs.Laws.{systemOf}
 use Rattle.admission.proofs.Laws.{refusalNumber, admitted-says}
-use Rattle.steps.proofs.Laws.{Nothing, endNumber}
-use Rattle.unary.proofs.Laws.{Opening, Opens, OutOfRange, NotAbove, Start, openingNumber, openOf, Ran, opens}
+use Rattle.states.proofs.Laws.{Nothing, endNumber}
+use Rattle.opening.proofs.Laws.{Opening, Opens, OutOfRange, NotAbove, Start, openingNumber, openOf, opens}
+use Rattle.unary.proofs.Laws.{Ran}
 use Rattle.worked.specs.Claims.{Job, Ending, judgedOf, ranOf, IsIncluded, EndsOnly, IsOpened, IsJudged, IsEnded, Claim, included, ends-only, opening, judged, ended, Says}
 use Rattle.worked.proofs.Same.{sameNumber?, same-number, sameList?, same-list, sameHeld?, same-held, all?, each}
 

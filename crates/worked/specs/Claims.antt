@@ -12,10 +12,10 @@ use Rattle.admission.specs.Admission.{refusalNumber, admissionOf}
 use Rattle.admission.specs.Admitted.{SystemCase}
 use Rattle.digits.specs.BuiltIn.{systemOf}
 use Rattle.admission.specs.Types.{Admission}
-use Rattle.steps.specs.Types.{Held, Nothing}
-use Rattle.unary.specs.Types.{Opens}
-use Rattle.steps.specs.State.{endNumber}
-use Rattle.unary.specs.Opening.{openingNumber, openOf, OpeningCase}
+use Rattle.states.specs.Types.{Held, Nothing}
+use Rattle.opening.specs.Types.{Opens}
+use Rattle.states.specs.State.{endNumber}
+use Rattle.opening.specs.Opening.{openingNumber, openOf, OpeningCase}
 use Rattle.unary.specs.Run.{Ran, runOf}
 
 -- a job: two systems as tables of rows, a matrix, a word, and the room that is given for the output

@@ -5,7 +5,7 @@ use Prim.Native.Nat.{ℕ, zero, suc}
 use lib.ListN.{take}
 use lib.IntN.{ℤ, pos}
 use Rattle.digits.specs.BuiltIn.{minus, row, rowsR, rowsB, rowsD}
-use Rattle.steps.specs.Types.{Held, Nothing, Digit}
+use Rattle.states.specs.Types.{Held, Nothing, Digit}
 use Rattle.worked.specs.Claims.{Job, Ending, Claim, included, ends-only, opening, judged, ended}
 
 -- four numbers: a matrix a b c d, or an interval x0 x1 y0 y1

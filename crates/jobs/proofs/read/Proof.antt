@@ -3,7 +3,7 @@ use Rattle.whole.proofs.Laws.{needs, _≡_, refl, sym, ap, _∙_, List, inl, in
 use Rattle.digits.proofs.Laws.{System}
 use Rattle.sections.proofs.Laws.{countOf, sizeOf, presence, Present, valueOf, nothing, _then_, Taken, Answered, present, not-there, answered, Reached, at-0, left, start, stops, goes, ended, followed}
 use Rattle.jobs.specs.Types.{Reads, Reading}
-use Rattle.jobs.specs.Sections.{system, matrix, word}
+use Rattle.job_sections.proofs.Laws.{system, matrix, word}
 use Rattle.jobs.specs.Reading.{bytesOf, readingOf, refused, Parts, job, contentsOf, readOf}
 use Rattle.jobs.proofs.read.Statement.{statement}
 use Rattle.jobs.proofs.read.Tie as tie

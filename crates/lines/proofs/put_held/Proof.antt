@@ -1,6 +1,6 @@
 -- `lines::put_held` meets its contract: `-`, or the held digit.
 use Rattle.whole.proofs.Laws.{needs, sym, ap, [], _∷_, _++_, arith}
-use Rattle.steps.proofs.Laws.{Held}
+use Rattle.states.proofs.Laws.{Held}
 use Rattle.text.proofs.Laws.{wrote-as, at-most}
 use Rattle.lines.specs.Lines.{heldText}
 use Rattle.lines.proofs.put_held.Statement.{statement}

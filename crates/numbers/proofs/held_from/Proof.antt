@@ -1,6 +1,6 @@
 -- `numbers::held_from` meets its contract, by the sign of the number and its size.
 use Rattle.whole.proofs.Laws.{needs, _≡_, sym, ap, _∙_, cond, arith, ltb, natAbs, lt-ltb, le-ltb}
-use Rattle.steps.proofs.Laws.{Digit}
+use Rattle.states.proofs.Laws.{Digit}
 use mir.Facts.{toZ-ofZ}
 use Rattle.numbers.specs.Numbers.{heldFrom}
 use Rattle.numbers.proofs.held_from.Statement.{statement}

@@ -1,6 +1,6 @@
 -- `plugin::sled_open` meets its contract: slices of the wrong length, the two refusals, and the opened state, written as five numbers.
 use Rattle.whole.proofs.Laws.{needs, _≡_, sym, ap, _∙_, now, eq-eqb, ne-eqb, unlessRefused, passed, decided}
-use Rattle.unary.proofs.Laws.{openOf}
+use Rattle.opening.proofs.Laws.{openOf}
 use Rattle.numbers.proofs.Laws.{stateNumbers}
 use Rattle.plugin.specs.Calls.{wrote, openCall}
 use Rattle.plugin.proofs.sled_open.Statement.{statement}

@@ -1,8 +1,10 @@
 -- `printed::respond` meets its contract: the file's refusal, or the run of the job that was read. The word lies inside the file, and what the run has written inside the
 -- room.
 use Rattle.whole.proofs.Laws.{needs, _≡_, refl, sym, ap, ap₂, _∙_, subst, List, ℕ, _+_, _-_, _≤_, arith, length, take, drop, length-append, length-take-le, now}
-use Rattle.unary.proofs.Laws.{Ran, runOf, openOf, Start, Answer, in-range}
-use Rattle.jobs.proofs.Laws.{Bytes, readOf, Verdict, Reading, word-inside}
+use Rattle.unary.proofs.Laws.{Ran, runOf, Answer, in-range}
+use Rattle.opening.proofs.Laws.{openOf, Start}
+use Rattle.job_sections.proofs.Laws.{Bytes}
+use Rattle.jobs.proofs.Laws.{readOf, Verdict, Reading, word-inside}
 use Rattle.text.proofs.Laws.{Wrote, wrote-as, from-front}
 use Rattle.printed.specs.Responds.{Responds}
 use Rattle.printed.specs.Text.{runIn, ranText, printedBy, printed, filledOn, filledBy}

@@ -2,7 +2,7 @@
 use Rattle.whole.proofs.Laws.{needs, sym, ap, subst, _∙_, List, ℤ}
 use Rattle.plane.proofs.Laws.{cancelOf, multiplyOf}
 use Rattle.steps.specs.Types.{Absorb}
-use Rattle.steps.specs.State.{absorbed}
+use Rattle.states.proofs.Laws.{absorbed}
 use Rattle.steps.specs.Made.{Factors}
 use Rattle.steps.proofs.Plans.{rangedMove, absorbs}
 use Rattle.steps.proofs.Factors.{absorb-factors}

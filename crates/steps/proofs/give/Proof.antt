@@ -3,7 +3,7 @@ use Rattle.whole.proofs.Laws.{needs, _≡_, sym, ap, subst, _∙_, List, ℤ, n
 use Rattle.plane.proofs.Laws.{cancelOf, multiplyOf, pseudoinverseOf}
 use Rattle.digits.proofs.Laws.{transformationAt}
 use Rattle.steps.specs.Types.{Give}
-use Rattle.steps.specs.State.{given}
+use Rattle.states.proofs.Laws.{given}
 use Rattle.steps.specs.Made.{Factors}
 use Rattle.steps.proofs.Plans.{rangedMove, gives, no-room}
 use Rattle.steps.proofs.Factors.{give-factors}

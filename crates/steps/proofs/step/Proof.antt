@@ -2,8 +2,8 @@
 use Rattle.whole.proofs.Laws.{needs, _≡_, refl, sym, subst, List, Option, none, some, ℕ, _<_, drop, ℤ, now}
 use Rattle.digits.proofs.Laws.{System, lent, stored-there}
 use Rattle.runs.proofs.Laws.{Supply, Plan}
-use Rattle.steps.specs.Types.{Held, Digit, State, Stop, Move}
-use Rattle.steps.specs.State.{HeldDigit}
+use Rattle.states.proofs.Laws.{Held, Digit, State, Stop, HeldDigit}
+use Rattle.steps.specs.Types.{Move}
 use Rattle.steps.specs.Step.{Setting, setting, oneWord, chosen, heldPlan, emitPlan, planBy}
 use Rattle.steps.specs.Made.{Follows, WorksWith, Ready}
 use Rattle.steps.proofs.step.Statement.{statement}

@@ -2,7 +2,8 @@
 use Rattle.whole.proofs.Laws.{needs, _≡_, sym, ap, _∙_, ℕ, now}
 use Rattle.digits.proofs.Laws.{lent}
 use Rattle.runs.proofs.Laws.{stopped}
-use Rattle.steps.proofs.Laws.{Refused, Setting, setting}
+use Rattle.states.proofs.Laws.{Refused}
+use Rattle.steps.proofs.Laws.{Setting, setting}
 use Rattle.unary.specs.Judging.{refusalOf}
 use Rattle.unary.specs.Run.{Ran, answerOf}
 use Rattle.unary.proofs.Judging.{accepted-ready}

@@ -1,0 +1,1 @@
+-- The folders prove the functions of src/lib.rt, each by its name. What cancelling says is in crates/plane (proofs/Cancelling.antt).

@@ -1,0 +1,50 @@
+// Cancelling, on machine words: "To cancel a matrix, divide it by the greatest common divisor of the four entries. Signs stay." What it says: crates/plane.
+ghost use mathlib.Core.Path.{_≡_};
+ghost use Prim.Native.Nat.{_<_};
+ghost use lib.IntN.{natAbs};
+ghost use Rattle.whole.specs.Range.{Within};
+ghost use Rattle.whole.specs.Divisor.{gcd, gcd4, divided, Divides4};
+ghost use Rattle.plane.specs.Plane.{cancelOf};
+
+// The greatest common divisor of two numbers, signs apart, by Euclid.
+pub fn divisor_of_two(x: i64, y: i64) -> u64
+    ensures { λ r. ⌜ r ≡ gcd (natAbs x) (natAbs y) ⌝ }
+{
+    whole::gcd(whole::magnitude(x), whole::magnitude(y))
+}
+
+// The greatest common divisor of the four entries. Of any four numbers at all. Most often the first two settle it.
+pub fn divisor(m: [i64; 4]) -> u64
+    ensures { λ r. ⌜ r ≡ gcd4 m ⌝ }
+{
+    let f = divisor_of_two(m[0], m[1]);
+    if f == 1 {
+        return 1;
+    }
+    whole::gcd(f, divisor_of_two(m[2], m[3]))
+}
+
+// The four numbers divided by a divisor of them. Signs stay.
+fn quotients(m: [i64; 4], g: u64) -> [i64; 4]
+    requires { ⌜ (Divides4 g m) × (0 < g) × (g < 9223372036854775808) ⌝ }
+    ensures { λ r. ⌜ r ≡ divided m g ⌝ }
+{
+    [
+        whole::quotient(m[0], g),
+        whole::quotient(m[1], g),
+        whole::quotient(m[2], g),
+        whole::quotient(m[3], g),
+    ]
+}
+
+// "To cancel a matrix, divide it by the greatest common divisor of the four entries. Signs stay." Most products have none but 1, and are not divided.
+pub fn cancel(m: [i64; 4]) -> [i64; 4]
+    requires { ⌜ (Within 200000000000 m) × (0 < gcd4 m) ⌝ }
+    ensures { λ r. ⌜ r ≡ cancelOf m ⌝ }
+{
+    let g = divisor(m);
+    if g == 1 {
+        return m;
+    }
+    quotients(m, g)
+}

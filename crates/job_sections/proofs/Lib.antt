@@ -1,0 +1,3 @@
+-- Numbers in bytes: what is written is read back, and what is read is written back (Numbers). Laws is the front door. The folders prove the functions of src/lib.rt.
+pub mod Laws
+mod Numbers

@@ -1,0 +1,6 @@
+-- What the crates above may use of this one: `use Rattle.states.proofs.Laws.{..}`.
+
+pub use Rattle.states.proofs.Rules.{cancelled-rules}
+-- the definitions
+pub use Rattle.states.specs.State.{HeldDigit, StateRules, absorbed, endNumber, given, heldCount, loaded, opened, refused?}
+pub use Rattle.states.specs.Types.{Digit, Held, InputUsed, NoRoom, NotADigit, Nothing, RangeLeft, Refused, State, Stop}

@@ -1,0 +1,3 @@
+-- The rules for a state. Laws is the front door.
+pub mod Laws
+mod Rules

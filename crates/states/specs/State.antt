@@ -1,0 +1,64 @@
+-- "State: a matrix X (cancelled, determinant above 0, entries within ±1,000,000,000) and a held digit of the input system, or none."
+use mathlib.Core.Path.{_≡_}
+use mathlib.Core.Bool.{Bool, true, false}
+use mathlib.Core.List.{List}
+use Prim.Native.Nat.{ℕ, _<_}
+use lib.IntN.{ℤ, pos}
+use lib.Signed.{_<ℤ_}
+use Rattle.whole.specs.Range.{Within}
+use Rattle.whole.specs.Divisor.{gcd4}
+use Rattle.plane.specs.Plane.{determinantOf, cancelOf}
+use Rattle.states.specs.Types.{Held, Nothing, Digit, State, Stop, InputUsed, NoRoom, NotADigit, RangeLeft, Refused}
+
+-- ---- a state is built in these four ways (and at the C boundary, from a plug-in's numbers)
+
+-- "X is M cancelled, nothing held": of the cancelled matrix
+abbrev pub opened : List ℤ → State
+opened x = record { matrix = x; held = Nothing }
+
+-- "take the byte as the held digit. X stays."
+abbrev pub loaded : State → ℕ → State
+loaded s a = record { matrix = s .matrix; held = Digit a }
+
+-- a new X, where a digit is given out
+abbrev pub given : State → List ℤ → State
+given s x = record { matrix = x; held = s .held }
+
+-- a new X, "and nothing is held"
+abbrev pub absorbed : State → List ℤ → State
+absorbed s x = record { matrix = x; held = Nothing }
+
+-- ---- the rules for a state
+
+-- "a held digit of the input system, or none", where the input system has n digits
+abbrev pub HeldDigit : ℕ → Held → Type 0
+HeldDigit n Nothing = Unit {0}
+HeldDigit n (Digit d) = d < n
+
+pub record StateRules (n : ℕ) (s : State) : Type 0 where
+  pub cancelled : gcd4 (s .matrix) ≡ 1
+  pub above : pos 0 <ℤ determinantOf (s .matrix)
+  pub in-range : Within 1000000000 (s .matrix)
+  pub held-digit : HeldDigit n (s .held)
+
+-- how many digits it holds
+abbrev pub heldCount : Held → ℕ
+heldCount Nothing = 0
+heldCount (Digit d) = 1
+
+-- ---- "Why a run stopped is one of five kinds, and the kind that refuses carries its number"
+
+-- document 01's number for each
+abbrev pub endNumber : Stop → ℕ
+endNumber InputUsed = 0
+endNumber NoRoom = 20
+endNumber NotADigit = 21
+endNumber RangeLeft = 22
+endNumber (Refused number) = number
+
+abbrev pub refused? : Stop → Bool
+refused? InputUsed = false
+refused? NoRoom = false
+refused? NotADigit = false
+refused? RangeLeft = false
+refused? (Refused number) = true
