@@ -4,7 +4,8 @@ use Rattle.whole.proofs.Laws.{_≡_, sym, subst, List, ℕ}
 use Rattle.admission.proofs.Laws.{Admitted, admitted-only}
 use Rattle.steps.proofs.Laws.{setting}
 use Rattle.opening.proofs.Laws.{openOf, Opens, opens, opened-rules}
-use Rattle.unary.proofs.Laws.{stepsOf, runOf, refusalOf, accepted, run-accepted}
+use Rattle.judging.proofs.Laws.{refusalOf, accepted}
+use Rattle.unary.proofs.Laws.{stepsOf, runOf, run-accepted}
 use Rattle.jobs.specs.Types.{Reads, Reading, Job}
 use Rattle.job_sections.proofs.Laws.{Contents, Bytes, Rules}
 use Rattle.jobs.specs.Reading.{readingOf, readOf}

@@ -4,27 +4,16 @@
 use mathlib.Core.List.{List, [], _∷_, _++_, map}
 use Prim.Native.Nat.{ℕ}
 use lib.ListN.{take}
-use Rattle.whole.specs.Range.{at}
 use Rattle.text.specs.Text.{bytesOf}
-use Rattle.text.specs.Number.{decimal, signedText}
+use Rattle.text.specs.Number.{decimal}
 use Rattle.text.specs.Line.{lineOf}
 use Rattle.states.specs.State.{endNumber}
-use Rattle.states.specs.Types.{Held, Nothing, Digit, State}
+use Rattle.state_line.specs.StateLine.{stateLine}
 use Rattle.unary.specs.Types.{Answer}
-
--- "the held digit or `-`"
-unfoldable pub heldText : Held → List ℕ
-heldText Nothing = bytesOf "-"
-heldText (Digit d) = decimal d
 
 -- "end number, digits taken, digits written"
 unfoldable pub countsLine : ℕ → ℕ → ℕ → List ℕ
 countsLine end taken written = lineOf (decimal end ∷ decimal taken ∷ decimal written ∷ [])
-
--- "the four entries and the held digit or `-`"
-unfoldable pub stateLine : State → List ℕ
-stateLine s = lineOf
-    (signedText (at (s .matrix) 0) ∷ signedText (at (s .matrix) 1) ∷ signedText (at (s .matrix) 2) ∷ signedText (at (s .matrix) 3) ∷ heldText (s .held) ∷ [])
 
 -- "the output digits .. with no digits the third line is empty"
 unfoldable pub digitsLine : List ℕ → List ℕ

@@ -1,11 +1,9 @@
 // The lines that the program prints: document 01's section "The program". Three of a run's answer, or one of a refused file, from the front of a buffer on.
-ghost use mathlib.Core.List.{[], _∷_, _++_};
+// The second line is in crate `state_line`.
 ghost use Prim.Native.Nat.{_+_, _≤_};
 ghost use lib.ListN.{length};
 ghost use Rattle.text.specs.Wrote.{Wrote};
-ghost use Rattle.lines.specs.Lines.{heldText, countsLine, stateLine, answerText, refusedText};
-use states::Held;
-use states::State;
+ghost use Rattle.lines.specs.Lines.{countsLine, answerText, refusedText};
 use unary::Answer;
 
 // The first line.
@@ -18,31 +16,6 @@ fn put_counts(out: &mut [u8], at: usize, end: u8, taken: usize, written: usize) 
     text::put_field(out, b, written as u64, b'\n')
 }
 
-// The second line's last field, and the line's end.
-fn put_held(out: &mut [u8], at: usize, held: Held) -> usize
-    requires { ⌜ at + 21 ≤ length (now out) ⌝ }
-    ensures { λ r. ⌜ Wrote (now (out .entry)) at (heldText held ++ (10 ∷ [])) 21 (now (out .exit)) r ⌝ }
-{
-    match held {
-        Held::Nothing => text::put_text(out, at, b"-\n"),
-        Held::Digit(d) => text::put_field(out, at, d as u64, b'\n'),
-    }
-}
-
-// The second line.
-fn put_state(out: &mut [u8], at: usize, s: State) -> usize
-    requires { ⌜ at + 109 ≤ length (now out) ⌝ }
-    ensures { λ r. ⌜ Wrote (now (out .entry)) at (stateLine s) 109 (now (out .exit)) r ⌝ }
-{
-    let m = s.matrix;
-    let held = s.held;
-    let a = text::put_signed(out, at, m[0], b' ');
-    let b = text::put_signed(out, a, m[1], b' ');
-    let c = text::put_signed(out, b, m[2], b' ');
-    let d = text::put_signed(out, c, m[3], b' ');
-    put_held(out, d, held)
-}
-
 // The three lines of a run's answer, with the bytes of its output.
 pub fn put_answer(out: &mut [u8], answer: Answer, output: &[u8]) -> usize
     requires { ⌜ (40000 ≤ length (now out)) × (length (now output) ≤ 8192) × (answer .written .0 ≤ length (now output)) ⌝ }
@@ -53,7 +26,7 @@ pub fn put_answer(out: &mut [u8], answer: Answer, output: &[u8]) -> usize
     let stop = answer.stop;
     let end = states::end_number(stop);
     let a = put_counts(out, 0, end, answer.taken.0, n);
-    let b = put_state(out, a, state);
+    let b = state_line::put_state(out, a, state);
     text::put_line(out, b, &output[..n])
 }
 

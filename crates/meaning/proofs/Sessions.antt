@@ -12,7 +12,8 @@ use Rattle.admission.proofs.Laws.{Admissible, Digits}
 use Rattle.runs.proofs.Laws.{Supply, spend, Outcome, goes, halts, mostSteps, Course, after, runBy, run, front-written, either}
 use Rattle.states.proofs.Laws.{State, Stop, Refused}
 use Rattle.steps.proofs.Laws.{Setting, setting, plain, oneWord}
-use Rattle.unary.proofs.Laws.{Answer, refusalOf, courseOf, runOf, course-in-range}
+use Rattle.judging.proofs.Laws.{refusalOf}
+use Rattle.unary.proofs.Laws.{Answer, courseOf, runOf, course-in-range}
 use mathlib.Core.List.{append-cancel-right}
 use native.Mathlib.Nat as N
 use Rattle.meaning.specs.Names.{namedFrom, productOf, determinantsOf, EachInItsInterval, heldDigits}

@@ -12,7 +12,8 @@ use Rattle.runs.proofs.Laws.{follow, runBy, run, judgedRun}
 use Rattle.states.proofs.Laws.{Nothing, Digit, State}
 use Rattle.steps.proofs.Laws.{fittingOf}
 use Rattle.opening.proofs.Laws.{openOf}
-use Rattle.unary.proofs.Laws.{state?, refusalOf, courseOf}
+use Rattle.judging.proofs.Laws.{state?, refusalOf}
+use Rattle.unary.proofs.Laws.{courseOf}
 use Rattle.meaning.specs.Names.{namedFrom, productOf, EachInItsInterval, UpToScale}
 use Rattle.meaning.specs.Session.{Session}
 use Rattle.meaning.proofs.Sessions.{session-product, session-numbers}

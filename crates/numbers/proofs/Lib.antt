@@ -1,6 +1,6 @@
--- How a system, a state and an answer are written as numbers: the front door is Laws.
+-- How a system and a state are written as numbers: the front door is Laws.
 --   Lists     a list copied or written place by place
---   Lengths   what the lengths are, where the test of them passes
+--   Lengths   what four lengths are, where the test of them passes
 --   ReadBack  the numbers that a plug-in keeps are read as the system and the state that they were written for
 pub mod Laws
 mod Lists

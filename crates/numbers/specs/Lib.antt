@@ -1,3 +1,2 @@
--- How a system, a state and an answer are written as numbers at the C boundary.
+-- How a system and a state are written as numbers at the C boundary.
 pub mod Numbers
-pub mod Job

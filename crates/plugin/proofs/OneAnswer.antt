@@ -1,8 +1,9 @@
 -- "That no second answer fits is itself proved": whatever two answers of a C function keep its promise, with whatever they leave in the lent slices, they are the same.
 -- Each promise is an equation with one value, which both are.
 use Rattle.whole.proofs.Laws.{_≡_, sym, _∙_, List, ℕ, ℤ}
-use Rattle.numbers.proofs.Laws.{AfterRead}
-use Rattle.plugin.specs.Calls.{admitNumber, wrote, handedOut, openCall, AfterRun, runCall, readCall}
+use Rattle.run_call.proofs.Laws.{AfterRun, runCall}
+use Rattle.read_call.proofs.Laws.{AfterRead, readCall}
+use Rattle.plugin.specs.Calls.{admitNumber, wrote, handedOut, openCall}
 
 pub one-admission : (rows : List ℤ) (r r′ : ℕ) → r ≡ admitNumber rows → r′ ≡ admitNumber rows → r ≡ r′
 one-admission rows r r′ p q = p ∙ sym q

@@ -1,11 +1,12 @@
 // The library for other languages: C functions over numbers and slices. include/sledhillock.h says what each promises, in a C author's words.
-// Crate `numbers` has how a system, a state and an answer are written. A slice of the wrong length is refused by 40, and nothing is written.
+// Crate `numbers` has how a system and a state are written; a run and reading are in `run_call` and `read_call`. A slice of the wrong length is refused by 40, and nothing is written.
 ghost use mathlib.Core.Path.{_≡_};
 ghost use Prim.Native.Nat.{_≤_};
 ghost use lib.ListN.{take};
 ghost use Rattle.digits.specs.BuiltIn.{joined, rowsR, rowsB, rowsD};
-ghost use Rattle.numbers.specs.Job.{afterRead};
-ghost use Rattle.plugin.specs.Calls.{admitNumber, wrote, intoExactly, handedOut, openCall, afterRun, runCall, readCall};
+ghost use Rattle.run_call.specs.RunCall.{afterRun, runCall};
+ghost use Rattle.read_call.specs.ReadCall.{afterRead, readCall};
+ghost use Rattle.plugin.specs.Calls.{admitNumber, wrote, intoExactly, handedOut, openCall};
 use digits::System;
 use numbers::WRONG_LENGTH;
 
@@ -91,19 +92,7 @@ pub extern "C" fn sled_run(
     ensures { λ r. ⌜ afterRun r (now (state .exit)) (now (output .exit)) (now (counts .exit)) ≡
         runCall (now («input_rows» .entry)) (now («output_rows» .entry)) (now (input .entry)) (now (state .entry)) (now (output .entry)) (now (counts .entry)) ⌝ }
 {
-    if !numbers::run_lengths(
-        input_rows.len(),
-        output_rows.len(),
-        state.len(),
-        counts.len(),
-    ) {
-        return WRONG_LENGTH;
-    }
-    let inputs = input_rows.len() / 8;
-    let outputs = output_rows.len() / 8;
-    let s = numbers::state_from(state);
-    let a = unary::run_lent(inputs, input_rows, outputs, output_rows, s, input, output);
-    numbers::put_answer(a, state, counts)
+    run_call::run(input_rows, output_rows, state, input, output, counts)
 }
 
 // Reads a job file: 0, and the two systems, the matrix and what else is found are written; or the number of the refusal with its section, and nothing is written.
@@ -118,18 +107,5 @@ pub extern "C" fn sled_read(
     ensures { λ r. ⌜ afterRead r (now («input_rows» .exit)) (now («output_rows» .exit)) (now (matrix .exit)) (now (found .exit)) ≡
         readCall (now (file .entry)) (now («input_rows» .entry)) (now («output_rows» .entry)) (now (matrix .entry)) (now (found .entry)) ⌝ }
 {
-    let reading = jobs::read(file);
-    let verdict = reading.verdict;
-    let number = numbers::read_number(
-        input_rows.len(),
-        output_rows.len(),
-        matrix.len(),
-        found.len(),
-        verdict,
-    );
-    if number != 0 {
-        return number;
-    }
-    numbers::put_job(reading.job, input_rows, output_rows, matrix, found);
-    0
+    read_call::read(file, input_rows, output_rows, matrix, found)
 }

@@ -1,6 +1,5 @@
 // Stored cases over the library's public functions, one line each: runs, sessions, openings, and what is refused. The cases are in the file stdin beside src/, and stdout
 // has what must be printed; expected.py writes both, and computes the lines in another way.
-use states::Held;
 use states::State;
 
 // A run: two systems, a state, a word, and a room as the bytes that stand there before.
@@ -36,10 +35,7 @@ fn case(kind: u8, before: State) -> State {
 
 // A proved loop has to end, and nothing says that an input does: the cases are counted down from a number that no input uses up.
 fn main() {
-    let mut s = State {
-        matrix: [0; 4],
-        held: Held::Nothing,
-    };
+    let mut s = states::opened([0; 4]);
     let mut left = u64::MAX;
     while left > 0 {
         let kind = test_input::byte();

@@ -4,7 +4,6 @@ ghost use Rattle.io.specs.Counts.{Counts};
 use digits::System;
 use libc::STDIN_FILENO;
 use libc::STDOUT_FILENO;
-use states::Held;
 use states::State;
 
 fn wide(b: u8) -> u64
@@ -85,14 +84,8 @@ pub fn state(before: State) -> State {
     match byte() {
         b'b' => before,
         b'o' => opened(matrix()),
-        b'h' => State {
-            matrix: matrix(),
-            held: Held::Digit(byte()),
-        },
-        _ => State {
-            matrix: matrix(),
-            held: Held::Nothing,
-        },
+        b'h' => states::loaded(states::opened(matrix()), byte()),
+        _ => states::opened(matrix()),
     }
 }
 

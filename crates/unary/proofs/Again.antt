@@ -8,7 +8,7 @@ use Rattle.states.proofs.Laws.{State, Stop, Refused}
 use Rattle.steps.proofs.Laws.{setting, plain, oneWord, lawful, steady}
 use lib.Seq.{drop-nil}
 use Rattle.runs.specs.Run as course
-use Rattle.unary.specs.Judging.{refusalOf}
+use Rattle.judging.proofs.Laws.{refusalOf}
 use Rattle.unary.specs.Run.{courseOf, leaves, runOf, untaken, unfilled, sameStop, followedBy}
 use Rattle.unary.proofs.Runs.{accepted-again, course-in-range}
 

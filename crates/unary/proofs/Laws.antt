@@ -1,8 +1,5 @@
 -- What the crates above may use of this one: `use Rattle.unary.proofs.Laws.{..}`.
 
--- opening
--- what is judged before any step
-pub use Rattle.unary.proofs.Judging.{state-says, Accepted, accepted, RefusalNumber, refusal-number}
 -- runs
 pub use Rattle.unary.proofs.Runs.{accepted-again, CourseInRange, course-in-range, AnswerInRange, in-range, written-only, run-accepted, refused-untouched, few-steps, few-steps-free}
 pub use Rattle.unary.proofs.Again.{stops-again, cut-anywhere}
@@ -10,7 +7,6 @@ pub use Rattle.unary.proofs.SameRun.{same-course, same-run}
 -- no second answer fits
 pub use Rattle.unary.proofs.OneAnswer.{RunPromise, one-run}
 -- the definitions
-unfoldable pub use Rattle.unary.specs.Judging.{refusalOf, state?}
 pub use Rattle.unary.specs.Run.{Ran}
 unfoldable pub use Rattle.unary.specs.Run.{courseOf, runOf, stepsOf}
 pub use Rattle.unary.specs.Types.{Answer}

@@ -1,12 +1,10 @@
 -- The unary algorithm, as theorems. Laws is the front door.
---   Judging     what is judged before any step: accepted, the numbers of refusal, the test of refusal 12
 --   Runs        in-range, written-only, refused-untouched, few-steps
 --   Again       a stopped run stops again; a run may be cut anywhere, in its input and in its room
 --   SameRun     numbers of digits that a system hasn't got change no run
 --   OneAnswer   no second answer fits
 --   Turn        for the loop: a turn of it is a step of the run
 -- The folders prove the functions of src/lib.rt, each by its name.
-mod Judging
 mod Runs
 mod Again
 mod SameRun

@@ -11,9 +11,8 @@ use Rattle.runs.proofs.Laws.{Supply, nothing, spend, Pays, cost, Halting, Cours
 use Rattle.states.proofs.Laws.{Nothing, State, Stop, Refused, StateRules, heldCount, endNumber}
 use Rattle.steps.proofs.Laws.{Setting, setting, plain, oneWord, lawful, StepEnd, step-stops, Below, below-at, Kept, step-keeps}
 use Rattle.runs.proofs.Laws as every
-use Rattle.unary.specs.Judging.{refusalOf}
+use Rattle.judging.proofs.Laws.{refusalOf, accepted, RefusalNumber, refusal-number}
 use Rattle.unary.specs.Run.{Ran, courseOf, leaves, runOf, stepsOf, runSteps}
-use Rattle.unary.proofs.Judging.{accepted, RefusalNumber, refusal-number}
 
 -- ---- a run that is not refused keeps the rules for a state, so the state that it hands back is never refused by the next
 

@@ -6,9 +6,8 @@ use Rattle.admission.proofs.Laws.{refusalNumber, admitted-few, unused-rows}
 use Rattle.runs.proofs.Laws.{Plan, follow, Course, same-runs, either, accepted-run, refused-run}
 use Rattle.states.proofs.Laws.{State, Stop, Refused, HeldDigit}
 use Rattle.steps.proofs.Laws.{setting, plain, oneWord, lawful, same-plan, step-holds}
-use Rattle.unary.specs.Judging.{state?, refusalOf}
+use Rattle.judging.proofs.Laws.{state?, refusalOf, accepted}
 use Rattle.unary.specs.Run.{courseOf, leaves, runOf}
-use Rattle.unary.proofs.Judging.{accepted}
 
 module _ (a a′ b b′ : System) (f : SameDigits a a′) (g : SameDigits b b′) (s : State) where
   same-refusal : refusalOf (setting a b) s ≡ refusalOf (setting a′ b′) s

@@ -1,4 +1,3 @@
--- Document 01, "The step": what is judged before any step, and a run, as definitions. (The state, opening and the step itself: crates/states, opening, steps.)
+-- Document 01, "The step": a run, as definitions. (The state, opening, the step itself and what is judged before it: crates/states, opening, steps, judging.)
 pub mod Types
-pub mod Judging
 pub mod Run

@@ -8,7 +8,7 @@ use Rattle.runs.specs.Run.{Course, run, judgedRun}
 use Rattle.states.specs.Types.{State, Stop, Refused}
 use Rattle.steps.specs.Step.{Setting, setting, plain, oneWord}
 use Rattle.unary.specs.Types.{Answer}
-use Rattle.unary.specs.Judging.{refusalOf}
+use Rattle.judging.specs.Refusal.{refusalOf}
 
 -- "A run judges .. before any step; it then answers the number, counts 0 and 0, the state as handed in, and an untouched output." What it does, before the bytes of its
 -- input and so many free places: why it stopped, its state, the bytes taken, the digits given out.

@@ -1,13 +1,11 @@
-// The unary algorithm: document 01's section "The step", refusal 12. Judging, and `run` (opening: crates/opening; the steps themselves: crates/steps).
+// The unary algorithm: document 01's section "The step". `run` (opening: crates/opening; what is judged before any step: crates/judging; the steps: crates/steps).
 // Public: `run` with the type of its answer. The rest is what our other crates call.
 ghost use mathlib.Core.Path.{_≡_};
 ghost use Rattle.digits.specs.System.{lent, Stored};
 ghost use Rattle.steps.specs.Step.{setting};
 ghost use Rattle.steps.specs.Made.{Ready};
-ghost use Rattle.unary.specs.Judging.{heldDigit?, state?, refusalOf};
 ghost use Rattle.unary.specs.Run.{stepsOf, runOf};
 use digits::System;
-use states::Held;
 use states::State;
 use states::Stop;
 use steps::Kind;
@@ -22,56 +20,6 @@ pub struct Answer {
     pub taken: Taken,
     pub written: Written,
     pub state: State,
-}
-
-// Whether the held digit, if there is one, is one of n.
-fn held_below(n: usize, h: Held) -> bool
-    ensures { λ r. ⌜ r ≡ heldDigit? n h ⌝ }
-{
-    match h {
-        Held::Nothing => true,
-        Held::Digit(d) => (d as usize) < n,
-    }
-}
-
-// Whether a state keeps the rules for a state, with an input system of n digits: what refusal 12 is about. Of any state at all.
-fn state_kept(n: usize, s: State) -> bool
-    ensures { λ r. ⌜ r ≡ state? n s ⌝ }
-{
-    let x = s.matrix;
-    if !plane::within(x, 1000000000) {
-        return false;
-    }
-    if plane::determinant(x) <= 0 {
-        return false;
-    }
-    if cancelling::divisor(x) != 1 {
-        return false;
-    }
-    let h = s.held;
-    held_below(n, h)
-}
-
-// "A run judges its input system (3, 6 to 10), its output system, then the state (12), before any step": the number of the refusal, or 0.
-fn refusal(
-    input_count: usize,
-    input_rows: &[i16],
-    output_count: usize,
-    output_rows: &[i16],
-    s: State,
-) -> u8
-    requires { ⌜ (Stored (lent «input_count» (now «input_rows»))) × (Stored (lent «output_count» (now «output_rows»))) ⌝ }
-    ensures { λ r. ⌜ r ≡ refusalOf (setting (lent «input_count» (now («input_rows» .entry))) (lent «output_count» (now («output_rows» .entry)))) s ⌝ }
-{
-    let a = admission::refusal_number(admission::admission_of(input_count, input_rows));
-    if a != 0 {
-        return a;
-    }
-    let b = admission::refusal_number(admission::admission_of(output_count, output_rows));
-    if b != 0 {
-        return b;
-    }
-    if state_kept(input_count, s) { 0 } else { 12 }
 }
 
 // The steps of a run whose systems and state are judged. A digit is written only after its state is known to fit.
@@ -141,7 +89,7 @@ pub fn run_lent(
     ensures { λ r. ⌜ (r ≡ runOf (lent «input_count» (now («input_rows» .entry))) (lent «output_count» (now («output_rows» .entry))) state (now (input .entry)) (now (output .entry)) .answer) ×
         (now (output .exit) ≡ runOf (lent «input_count» (now («input_rows» .entry))) (lent «output_count» (now («output_rows» .entry))) state (now (input .entry)) (now (output .entry)) .output) ⌝ }
 {
-    let number = refusal(input_count, input_rows, output_count, output_rows, state);
+    let number = judging::refusal(input_count, input_rows, output_count, output_rows, state);
     if number != 0 {
         return Answer {
             stop: Stop::Refused(number),

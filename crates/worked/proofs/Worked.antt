@@ -7,7 +7,8 @@ use Rattle.digits.proofs.Laws.{fourAt, transformationAt, intervalAt, systemOf}
 use Rattle.admission.proofs.Laws.{rowVerdict, rowsVerdict, admissionOf}
 use Rattle.runs.proofs.Laws.{follow, runBy, run, judgedRun}
 use Rattle.steps.proofs.Laws.{fittingOf}
-use Rattle.unary.proofs.Laws.{state?, refusalOf, courseOf, runOf}
+use Rattle.judging.proofs.Laws.{state?, refusalOf}
+use Rattle.unary.proofs.Laws.{courseOf, runOf}
 use Rattle.opening.proofs.Laws.{openOf}
 use mathlib.Core.Logic.{⊎-elim}
 use Rattle.worked.specs.Claims.{Claim, Says, Member}

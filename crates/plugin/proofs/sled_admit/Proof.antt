@@ -2,7 +2,7 @@
 use Rattle.whole.proofs.Laws.{needs, ap, _∙_, now, eq-eqb, ne-eqb}
 use Rattle.admission.proofs.Laws.{refusalNumber}
 use Rattle.plugin.specs.Calls.{admitNumber}
-use Rattle.plugin.proofs.Rows.{lent-admission}
+use Rattle.run_call.proofs.Laws.{lent-admission}
 use Rattle.plugin.proofs.sled_admit.Statement.{statement}
 use Rattle.plugin.proofs.sled_admit.Tie as tie
 

@@ -1,25 +1,7 @@
--- `plugin::sled_read` meets its contract: the number decides, of a wrong length or of a refused file, and 0 passes: the job is written as numbers.
-use Rattle.whole.proofs.Laws.{needs, _≡_, sym, _∙_, now, unlessRefused, passed, decided}
-use Rattle.numbers.proofs.Laws.{afterRead, jobNumbers, read-lengths}
-use Rattle.plugin.specs.Calls.{readCall}
+-- `plugin::sled_read` meets its contract: it is `read_call::read`.
+use Rattle.whole.proofs.Laws.{needs}
 use Rattle.plugin.proofs.sled_read.Statement.{statement}
 use Rattle.plugin.proofs.sled_read.Tie as tie
 
-judged : (n : tie.After-read-number) → let r = n .before in let a = r .before .before .before .args in
-    readCall (now (a .file)) (now (a .input-rows)) (now (a .output-rows)) (now (a .matrix)) (now (a .found))
-    ≡ unlessRefused (n .read-number .result) (λ k. afterRead k (now (a .input-rows)) (now (a .output-rows)) (now (a .matrix)) (now (a .found))) (jobNumbers (r .read .result .job))
-unfolding readCall
-judged n = rw (← (n .before .read .ensures), ← (n .read-number .ensures))
-
-put-job-requires : tie.Need-put-job-requires
-put-job-requires c κs = let l = c .before .before .before .before in read-lengths _ _ _ _ (l .before .before .read .result .verdict) (l .before .read-number .ensures) (l .if1 .left)
-
-returns-2 : tie.Need-returns-2
-returns-2 c =
-    let p = c .before .before .before .before .before in
-    let l = p .before .before .before .before .before in
-    p .put-job .ensures ∙ sym (judged (l .before) ∙ passed _ _ (l .if1 .left))
-
 pub sled-read-spec : {M : Type 1} → statement M
-sled-read-spec = tie.close (tie.spec (λ c κs. search needs) (λ c κs. search needs) (λ c. sym (judged (c .before) ∙ decided _ _ (c .if1 .taken))) put-job-requires (λ c. search needs) (λ c. search needs)
-    (λ c. search needs) (λ c. search needs) returns-2)
+sled-read-spec = tie.close (tie.spec (λ c κs. search needs) (λ c. search needs) (λ c. search needs) (λ c. search needs) (λ c. search needs) (λ c. c .before .before .before .before .before .read .ensures))

@@ -1,40 +1,7 @@
--- `plugin::sled_run` meets its contract: slices of the wrong length are refused, and what a run leaves is written back as numbers.
-use Rattle.whole.proofs.Laws.{needs, _≡_, sym, _∙_, true, _%_, length, now, not-true, not-false}
-use Rattle.numbers.proofs.Laws.{four-lengths}
-use Rattle.plugin.specs.Calls.{runLengths?, runCall}
-use Rattle.plugin.proofs.Rows.{lent-run}
-use Rattle.plugin.proofs.Ran.{ran-call}
+-- `plugin::sled_run` meets its contract: it is `run_call::run`.
+use Rattle.whole.proofs.Laws.{needs}
 use Rattle.plugin.proofs.sled_run.Statement.{statement}
 use Rattle.plugin.proofs.sled_run.Tie as tie
 
-abbrev start : tie.Else1 → tie.Start
-start c = c .before .before .before .before .before
-
-returns : tie.Need-returns
-unfolding runCall
-returns c = rw (sym (c .before .run-lengths .ensures) ∙ not-true _ (c .if1 .taken))
-
-right : (c : tie.Else1) → let a = start c .args in runLengths? (now (a .input-rows)) (now (a .output-rows)) (now (a .state)) (now (a .counts)) ≡ true
-right c = sym (c .before .run-lengths .ensures) ∙ not-false _ (c .if1 .left)
-
-sized : (c : tie.Else1) → let a = start c .args in
-    (length (now (a .input-rows)) % 8 ≡ 0) × (length (now (a .output-rows)) % 8 ≡ 0) × (length (now (a .state)) ≡ 5) × (length (now (a .counts)) ≡ 2)
-sized c = four-lengths (right c)
-
-put-answer-requires : tie.Need-put-answer-requires
-put-answer-requires c κs = let l = sized (c .before .before .before .before .before .before .before .before) in (l .2, l .3)
-
-returns-2 : tie.Need-returns-2
-unfolding runCall
-returns-2 c =
-    let p = c .before .before .before in
-    let r = p .before .before .before .before .before in
-    let s = r .before .before in
-    let l = s .before .before in
-    let a = start l .args in
-    let ran = lent-run (now (a .input-rows)) (now (a .output-rows)) (sized l .0) (sized l .1) (s .state-from .ensures) (now (a .input)) (now (a .output)) in
-    rw (right l) (ran-call (now (a .state)) ran (r .run-lent .ensures) (p .put-answer .ensures))
-
 pub sled-run-spec : {M : Type 1} → statement M
-sled-run-spec = tie.close (tie.spec (λ c κs. search needs) returns (λ c κs. sized (c .before) .2) (λ c κs. search needs) put-answer-requires (λ c. search needs)
-    (λ c. search needs) (λ c. search needs) returns-2)
+sled-run-spec = tie.close (tie.spec (λ c κs. search needs) (λ c. search needs) (λ c. search needs) (λ c. search needs) (λ c. c .before .before .before .before .before .run .ensures))

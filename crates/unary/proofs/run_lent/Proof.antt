@@ -4,9 +4,8 @@ use Rattle.digits.proofs.Laws.{lent}
 use Rattle.runs.proofs.Laws.{stopped}
 use Rattle.states.proofs.Laws.{Refused}
 use Rattle.steps.proofs.Laws.{Setting, setting}
-use Rattle.unary.specs.Judging.{refusalOf}
+use Rattle.judging.proofs.Laws.{refusalOf, accepted-ready}
 use Rattle.unary.specs.Run.{Ran, answerOf}
-use Rattle.unary.proofs.Judging.{accepted-ready}
 use Rattle.unary.proofs.Runs.{run-accepted, refused-untouched}
 use Rattle.unary.proofs.run_lent.Statement.{statement}
 use Rattle.unary.proofs.run_lent.Tie as tie

@@ -1,0 +1,6 @@
+-- What the crates above may use.
+
+-- what is judged before any step
+pub use Rattle.judging.proofs.Judging.{state-says, Accepted, accepted, accepted-ready, RefusalNumber, refusal-number}
+-- the definitions
+unfoldable pub use Rattle.judging.specs.Refusal.{refusalOf, state?}

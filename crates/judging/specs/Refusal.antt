@@ -1,0 +1,27 @@
+-- "A run judges its input system (3, 6 to 10), its output system, then the state (12), before any step."
+use mathlib.Core.Bool.{Bool, true, cond, _&&_}
+use Prim.Native.Nat.{ℕ}
+use lib.Dec.{ltb}
+use lib.IntN.{pos}
+use lib.Signed.{ltZ}
+use Rattle.whole.specs.Refusal.{unlessRefused}
+use Rattle.plane.specs.Plane.{determinantOf}
+use Rattle.plane.specs.Tests.{within?, lowest?}
+use Rattle.admission.specs.Admission.{refusalNumber, admissionOf}
+use Rattle.states.specs.Types.{Held, Nothing, Digit, State}
+use Rattle.steps.specs.Step.{Setting}
+
+-- the rules for a state (`StateRules`, crates/states/specs/State.antt) as a test: what refusal 12 is about
+abbrev pub heldDigit? : ℕ → Held → Bool
+heldDigit? n Nothing = true
+heldDigit? n (Digit d) = ltb d n
+
+unfoldable pub state? : ℕ → State → Bool
+state? n s = within? 1000000000 (s .matrix) && ltZ (pos 0) (determinantOf (s .matrix)) && lowest? (s .matrix) && heldDigit? n (s .held)
+
+-- the number of the first refusal, or 0
+unfoldable pub refusalOf : Setting → State → ℕ
+refusalOf y s =
+    unlessRefused (refusalNumber (admissionOf (y .input))) (λ n. n)
+    (unlessRefused (refusalNumber (admissionOf (y .output))) (λ n. n)
+    (cond (state? (y .input .count) s) 0 12))

@@ -1,0 +1,2 @@
+-- Reading a job file into lent numbers.
+pub mod ReadCall

@@ -1,0 +1,53 @@
+-- What is read in a job file, as numbers; and what every lent number is behind a reading, for all inputs.
+use mathlib.Core.Bool.{Bool, cond, _&&_}
+use mathlib.Core.List.{List, [], _∷_}
+use Prim.Native.Nat.{ℕ, _+_, _*_}
+use lib.Dec.{eqb}
+use lib.ListN.{length}
+use lib.IntN.{ℤ}
+use Rattle.plane.specs.Scale.{entries}
+use Rattle.whole.specs.Refusal.{unlessRefused}
+use Rattle.jobs.specs.Types.{Verdict, Reads, Refused, Job, Reading}
+use Rattle.jobs.specs.Reading.{readOf}
+use Rattle.numbers.specs.Numbers.{wrongLength}
+
+-- "The answer is the number and the section, 0 to 3": one number, number + 256 · section, and 0 where the file reads
+abbrev pub verdictNumber : Verdict → ℕ
+verdictNumber Reads = 0
+verdictNumber (Refused number section) = number + 256 * section
+
+-- it is asked only where the lengths are right of what is written over: all rows of two systems, a matrix, and what else is found
+abbrev pub readLengths? : ℕ → ℕ → ℕ → ℕ → Bool
+readLengths? input-rows output-rows m found = eqb input-rows 128 && eqb output-rows 128 && eqb m 4 && eqb found 4
+
+abbrev pub readNumber : ℕ → ℕ → ℕ → ℕ → Verdict → ℕ
+readNumber input-rows output-rows m found v = cond (readLengths? input-rows output-rows m found) (verdictNumber v) wrongLength
+
+-- what reading leaves: its answer, the rows of the two systems, the matrix, and what else is found
+pub record AfterRead : Type 0 where
+  pub number : ℕ
+  pub input-rows : List ℤ
+  pub output-rows : List ℤ
+  pub matrix : List ℤ
+  pub found : List ℕ
+
+abbrev pub afterRead : ℕ → List ℤ → List ℤ → List ℤ → List ℕ → AfterRead
+afterRead n input output m found = record { number = n; input-rows = input; output-rows = output; matrix = m; found = found }
+
+-- a job: all 16 rows of each system, 0 for the digits that it hasn't got; the four entries; then the two counts of digits, and where the word starts and how long it is
+abbrev pub foundNumbers : Job → List ℕ
+foundNumbers j = j .input .count ∷ j .output .count ∷ j .word .start ∷ j .word .length ∷ []
+
+abbrev pub jobNumbers : Job → AfterRead
+jobNumbers j = afterRead 0 (j .input .rows) (j .output .rows) (entries (j .matrix)) (foundNumbers j)
+
+-- ---- reading a job file: what is read is written where the file reads, and only there
+abbrev pub readingCall : Reading → List ℤ → List ℤ → List ℤ → List ℕ → AfterRead
+readingCall r input-rows output-rows m found =
+    unlessRefused (readNumber (length input-rows) (length output-rows) (length m) (length found) (r .verdict))
+    (λ n. afterRead n input-rows output-rows m found)
+    (jobNumbers (r .job))
+
+-- of the file, and then what is written over: the rows of the two systems, the matrix and what else is found
+unfoldable pub readCall : List ℕ → List ℤ → List ℤ → List ℤ → List ℕ → AfterRead
+readCall file input-rows output-rows m found = readingCall (readOf file) input-rows output-rows m found

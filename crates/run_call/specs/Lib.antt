@@ -1,0 +1,2 @@
+-- A run over lent numbers.
+pub mod RunCall

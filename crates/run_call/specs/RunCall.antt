@@ -1,0 +1,34 @@
+-- What a run over lent numbers answers, and what every lent number and byte is afterwards, for all inputs.
+use mathlib.Core.Bool.{Bool, cond, _&&_}
+use mathlib.Core.List.{List, [], _∷_}
+use Prim.Native.Nat.{ℕ}
+use lib.Dec.{eqb}
+use lib.ListN.{length}
+use lib.IntN.{ℤ}
+use Rattle.states.specs.State.{endNumber}
+use Rattle.unary.specs.Run.{Ran, runOf}
+use Rattle.numbers.specs.Numbers.{wrongLength, rows?, systemFrom, stateFrom, stateAfter}
+
+-- a run: its answer, the state's five numbers, the bytes of the output, and the two counts, taken and written
+pub record AfterRun : Type 0 where
+  pub number : ℕ
+  pub state : List ℤ
+  pub output : List ℕ
+  pub counts : List ℕ
+
+abbrev pub afterRun : ℕ → List ℤ → List ℕ → List ℕ → AfterRun
+afterRun n s out c = record { number = n; state = s; output = out; counts = c }
+
+abbrev pub ranCall : Ran → List ℤ → AfterRun
+ranCall r old =
+    afterRun (endNumber (r .answer .stop)) (stateAfter (r .answer .stop) (r .answer .state) old) (r .output) (r .answer .taken .0 ∷ r .answer .written .0 ∷ [])
+
+abbrev pub runLengths? : List ℤ → List ℤ → List ℤ → List ℕ → Bool
+runLengths? input-rows output-rows old counts = rows? input-rows && rows? output-rows && eqb (length old) 5 && eqb (length counts) 2
+
+-- of the two systems, the input, and then what is written over: the state, the output and the counts
+unfoldable pub runCall : List ℤ → List ℤ → List ℕ → List ℤ → List ℕ → List ℕ → AfterRun
+runCall input-rows output-rows input old output counts =
+    cond (runLengths? input-rows output-rows old counts)
+    (ranCall (runOf (systemFrom input-rows) (systemFrom output-rows) (stateFrom old) input output) old)
+    (afterRun wrongLength old output counts)

@@ -1,0 +1,63 @@
+// A run, over numbers and bytes that a plug-in lends: what it answers, and what every lent number and byte is afterwards. `sled_run` (crate `plugin`) is this for C.
+ghost use mathlib.Core.Path.{_≡_};
+ghost use mathlib.Core.Bool.{_&&_};
+ghost use mathlib.Core.List.{[], _∷_};
+ghost use Prim.Native.Nat.{_%_};
+ghost use lib.Dec.{eqb};
+ghost use lib.ListN.{length};
+ghost use Rattle.states.specs.State.{endNumber};
+ghost use Rattle.numbers.specs.Numbers.{stateAfter};
+ghost use Rattle.run_call.specs.RunCall.{afterRun, runCall};
+use numbers::WRONG_LENGTH;
+use unary::Answer;
+
+// Whether the lengths are right of what a run is lent: whole rows of two systems, a state, and two counts.
+fn run_lengths(input_rows: usize, output_rows: usize, state: usize, counts: usize) -> bool
+    ensures { λ r. ⌜ r ≡ (eqb («input_rows» % 8) 0 && eqb («output_rows» % 8) 0 && eqb state 5 && eqb counts 2) ⌝ }
+{
+    (input_rows % 8 == 0) & (output_rows % 8 == 0) & (state == 5) & (counts == 2)
+}
+
+// An answer: its number; the two counts, taken and written; and the state, unless the run was refused.
+fn put_answer(a: Answer, state: &mut [i64], counts: &mut [usize]) -> u32
+    requires { ⌜ (length (now state) ≡ 5) × (length (now counts) ≡ 2) ⌝ }
+    ensures { λ r. ⌜ (r ≡ endNumber (a .stop)) × (now (state .exit) ≡ stateAfter (a .stop) (a .state) (now (state .entry))) × (now (counts .exit) ≡ a .taken .0 ∷ a .written .0 ∷ []) ⌝ }
+{
+    let stop = a.stop;
+    let s = a.state;
+    counts[0] = a.taken.0;
+    counts[1] = a.written.0;
+    let number = states::end_number(stop) as u32;
+    if states::refused(stop) {
+        return number;
+    }
+    numbers::put_state(s, state);
+    number
+}
+
+// Runs: takes bytes of the input and writes digits to the output until a step stops. Answers why; the state and the two counts, taken and written, are written back.
+pub fn run(
+    input_rows: &[i16],
+    output_rows: &[i16],
+    state: &mut [i64],
+    input: &[u8],
+    output: &mut [u8],
+    counts: &mut [usize],
+) -> u32
+    ensures { λ r. ⌜ afterRun r (now (state .exit)) (now (output .exit)) (now (counts .exit)) ≡
+        runCall (now («input_rows» .entry)) (now («output_rows» .entry)) (now (input .entry)) (now (state .entry)) (now (output .entry)) (now (counts .entry)) ⌝ }
+{
+    if !run_lengths(
+        input_rows.len(),
+        output_rows.len(),
+        state.len(),
+        counts.len(),
+    ) {
+        return WRONG_LENGTH;
+    }
+    let inputs = input_rows.len() / 8;
+    let outputs = output_rows.len() / 8;
+    let s = numbers::state_from(state);
+    let a = unary::run_lent(inputs, input_rows, outputs, output_rows, s, input, output);
+    put_answer(a, state, counts)
+}

@@ -1,0 +1,1 @@
+-- The functions of src/lib.rt meet their contracts, each in a folder of its name. The laws of what is written are those of `text`.

@@ -1,0 +1,2 @@
+-- Document 01, "The program": the second line.
+pub mod StateLine
