@@ -1,5 +1,5 @@
 -- What `read` answers: "The answer is the number and the section, 0 to 3 (2 has section 3)", or the job. The theorems `reads-exactly` and `refuses-exactly` (proofs/) say what
--- the answers mean, by specs/Layout.antt and specs/Refuses.antt.
+-- the answers mean, by crates/job_sections/specs/Layout.antt and specs/Refuses.antt.
 use mathlib.Core.List.{List}
 use Prim.Native.Nat.{ℕ, _+_, _*_}
 use lib.ListN.{length, replicate}
