@@ -6,13 +6,13 @@
 -- answer (`row-says`), behind rows that are all digits; where it finds none, all rows are digits, and the cover theorem says what the cover test means. So one of the
 -- sentences always holds, and the answer that is given is its answer (`admitted-says`). Both together are `admitted-exactly`.
 use Rattle.whole.proofs.Laws.{_≡_, refl, sym, _∙_, ap, subst, Bool, true, false, cond, false≢true, _⊎_, inl, inr, _↔_, Option, none, some, ℕ, _-_, _≤_, _<_, eq-zero-or-pos, arith, le-leb, lt-leb, first, first-found, first-none, found-first, none-first}
-use Rattle.digits.proofs.Laws.{System, interval, transformation}
+use Rattle.digits.proofs.Laws.{System, interval, transformation, Small}
+use Rattle.cover.proofs.Laws.{covered?, CoverSays, cover-says, one-digit}
 use Rattle.admission.specs.Types.{Admission, Admitted, WrongCount, OutOfRange, NotAbove, NotBelow, NotLowest, Uncovered}
-use Rattle.admission.specs.Admission.{refused?, verdictOfRow, covered?, firstVerdict, rowsVerdict, admissionOf}
-use Rattle.admission.specs.Admitted.{DigitAt, Digits, RowCase, FirstRow, SystemCase}
+use Rattle.admission.specs.Admission.{refused?, verdictOfRow, firstVerdict, rowsVerdict, admissionOf}
+use Rattle.admission.specs.Admitted.{DigitAt, Digits, Admissible, RowCase, FirstRow, SystemCase}
 use Rattle.admission.proofs.Numbers.{not-refused}
 use Rattle.admission.proofs.RowSays.{row-says, row-only}
-use Rattle.admission.proofs.CoverSays.{digits-cover, one-digit-not-admissible}
 
 -- ---- rows that are not refused are digits
 
@@ -27,6 +27,13 @@ digit-says s a e =
 
 says-digit : (s : System) (a : ℕ) → DigitAt s a → refused? (verdictOfRow s a) ≡ false
 says-digit s a d = ap refused? (sym (row-only (transformation s a) (interval s a) Admitted d))
+
+-- their numbers are small, and so the test of the cover says what it should
+pub small : (s : System) → Digits s → Small s
+small s d = record { small = λ a h. d a h .in-range .numbers-w }
+
+digits-cover : (s : System) → 1 ≤ s .count → Digits s → CoverSays s
+digits-cover s some-digit d = cover-says s some-digit (small s d) (λ a h. d a h .interval)
 
 -- ---- where a sentence holds, its answer is given
 
@@ -127,6 +134,12 @@ admitted-few s e = admitted-exactly s Admitted .0 e .few-digits
 
 pub admitted-digits : (s : System) → admissionOf s ≡ Admitted → Digits s
 admitted-digits s e = admitted-exactly s Admitted .0 e .digits
+
+-- One digit never covers.
+pub one-digit-not-admissible : (s : System) → s .count ≡ 1 → Admissible s → ⊥
+one-digit-not-admissible s one d =
+    let u = digits-cover s (d .some-digits) (d .digits) .gap .0 (one-digit s one) in
+    u .2 (d .cover (u .0) (u .1))
 
 pub one-digit-refused : (s : System) → s .count ≡ 1 → admissionOf s ≡ Admitted → ⊥
 one-digit-refused s one e = one-digit-not-admissible s one (admitted-exactly s Admitted .0 e)

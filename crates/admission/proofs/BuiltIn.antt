@@ -1,8 +1,8 @@
 -- The built-in systems R, D and B are admitted, by one law over tables of rows: where the admission of every table computes to "admitted", every table is an
 -- admissible system in document 01's words (`admitted-exactly`). The law is applied once, to the list of the three, and the test in it is run by the checker.
 -- Then the single systems that document 01 and its rules speak of, each by computation, in one record.
-use Rattle.whole.proofs.Laws.{_≡_, refl, Bool, true, not, _&&_, List, [], _∷_, _++_, not-true, take, ℤ, pos, gcdBy, gcd, gcd4, first, both-true}
-use Rattle.plane.proofs.Laws.{determinantOf, within?}
+use Rattle.whole.proofs.Laws.{_≡_, refl, Bool, true, not, _&&_, List, [], _∷_, _++_, not-true, take, ℤ, pos, gcdBy, gcd, gcd4, first, both-true, within?}
+use Rattle.plane.proofs.Laws.{determinantOf}
 use Rattle.inclusion.proofs.Laws.{closed?, same?}
 use Rattle.digits.proofs.Laws.{transformationAt, intervalAt, minus, row, rowsR, rowsD, rowsB, systemOf}
 use Rattle.admission.specs.Types.{Admission, Admitted, WrongCount, Uncovered}

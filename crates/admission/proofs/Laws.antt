@@ -1,13 +1,10 @@
 -- What the crates above may use of this one.
 -- each answer is given exactly when document 01's sentence holds: of a row, and of a system
 pub use Rattle.admission.proofs.RowSays.{row-says, row-only, row-exactly}
-pub use Rattle.admission.proofs.AdmittedSays.{admitted-says, admitted-only, admitted-exactly, admitted-few, admitted-digits, one-digit-refused}
+pub use Rattle.admission.proofs.AdmittedSays.{admitted-says, admitted-only, admitted-exactly, admitted-few, admitted-digits, small, one-digit-not-admissible, one-digit-refused}
 pub use Rattle.admission.proofs.OneAnswer.{one-answer, one-sentence}
 -- the numbers of refusal
 pub use Rattle.admission.proofs.Numbers.{number-0, not-refused, admission-number}
--- the cover
-pub use Rattle.admission.proofs.CoverTests.{Intervals}
-pub use Rattle.admission.proofs.CoverSays.{CoverSays, cover-says, small, one-digit-not-admissible}
 -- what is kept for digits that a system hasn't got
 pub use Rattle.admission.proofs.UnusedRows.{unused-rows}
 -- R, D and B, and single systems

@@ -5,8 +5,8 @@
 -- the ground's laws on signed tests, lowest terms by the greatest common divisor, which every common divisor divides and which is one itself. `row-only` takes a row's
 -- sentence and finds how each test comes out; and since one of the sentences always holds, the answer that is given is its answer (`row-says`). Both together are
 -- `row-exactly`.
-use Rattle.whole.proofs.Laws.{_≡_, refl, sym, subst, Bool, true, false, _&&_, false≢true, List, _⊎_, inl, inr, _↔_, ℕ, _∣_, eqb-true, eq-eqb, eqb, ℤ, pos, natAbs, at, gcd, gcd4, gcd-divides-left, gcd-divides-right, gcd-greatest, gcd4-divides, gcd4-greatest, <-or-≥, true-lt, false-lt, both-true, true-both, false-by}
-use Rattle.plane.proofs.Laws.{determinantOf, within?, lowest?, within-says, says-within}
+use Rattle.whole.proofs.Laws.{_≡_, refl, sym, subst, Bool, true, false, _&&_, false≢true, List, _⊎_, inl, inr, _↔_, ℕ, _∣_, eqb-true, eq-eqb, eqb, ℤ, pos, natAbs, at, gcd, gcd4, gcd-divides-left, gcd-divides-right, gcd-greatest, gcd4-divides, gcd4-greatest, <-or-≥, true-lt, false-lt, both-true, true-both, false-by, within?, lowest?, within-says, says-within}
+use Rattle.plane.proofs.Laws.{determinantOf}
 use native.Mathlib.Nat.{eq-one-of-dvd-one}
 use Rattle.admission.specs.Types.{Admission, Admitted, WrongCount, OutOfRange, NotAbove, NotBelow, NotLowest, Uncovered}
 use Rattle.admission.specs.Admission.{lowestEnds?, rowVerdict}

@@ -5,18 +5,17 @@ use mathlib.Core.Bool.{Bool, not, cond, _&&_}
 use mathlib.Core.List.{List}
 use mathlib.Core.Logic.{_⊎_}
 use mathlib.Core.Option.{Option, none, some}
-use Prim.Native.Nat.{ℕ, _<_, _≤_}
+use Prim.Native.Nat.{ℕ, _≤_}
 use lib.Dec.{leb, eqb}
 use lib.IntN.{ℤ, pos, natAbs}
 use lib.Signed.{ltZ}
-use Rattle.whole.specs.Range.{at, Within}
-use Rattle.whole.specs.Divisor.{gcd}
-use Rattle.whole.specs.First.{first, found?}
-use Rattle.plane.specs.Plane.{right, determinantOf}
-use Rattle.inclusion.specs.Inclusion.{closed?, same?}
-use Rattle.plane.specs.Tests.{within?, lowest?}
+use Rattle.whole.specs.Range.{at, within?}
+use Rattle.whole.specs.Divisor.{gcd, lowest?}
+use Rattle.whole.specs.First.{first}
+use Rattle.plane.specs.Plane.{determinantOf}
 use Rattle.digits.specs.Types.{System}
 use Rattle.digits.specs.System.{transformation, interval}
+use Rattle.cover.specs.Cover.{covered?}
 use Rattle.admission.specs.Types.{Admission, Admitted, WrongCount, OutOfRange, NotAbove, NotBelow, NotLowest, Uncovered}
 
 -- Document 01's number for each answer; 0 where nothing is refused.
@@ -54,21 +53,7 @@ rowVerdict f w =
 abbrev pub verdictOfRow : System → ℕ → Admission
 verdictOfRow s a = rowVerdict (transformation s a) (interval s a)
 
--- "then 10": the intervals leave no gap. Behind the right end of each goes on another, which holds that end and does not end there too.
-abbrev pub goesOnBehind? : List ℤ → List ℤ → Bool
-goesOnBehind? v w = closed? w (right v) && not (same? (right v) (right w))
-
-abbrev pub someGoesOn? : System → List ℤ → Bool
-someGoesOn? s v = found? (first (λ b. goesOnBehind? v (interval s b)) (s .count) 0)
-
-abbrev pub covered? : System → Bool
-covered? s = not (found? (first (λ a. not (someGoesOn? s (interval s a))) (s .count) 0))
-
--- what the cover test needs of the numbers, so that no determinant leaves 64 bits
-pub record Small (s : System) : Type 0 where
-  pub small : (a : ℕ) → a < s .count → Within 100 (interval s a)
-
--- the first row that is refused decides; where none is, the cover does
+-- "then 10": the first row that is refused decides; where none is, the cover does (crates/cover)
 abbrev pub firstVerdict : System → Option ℕ → Admission
 firstVerdict s none = cond (covered? s) Admitted Uncovered
 firstVerdict s (some a) = verdictOfRow s a

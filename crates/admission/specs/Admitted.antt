@@ -8,9 +8,10 @@ use lib.IntN.{ℤ, pos, natAbs}
 use lib.Signed.{_≤ℤ_, _<ℤ_}
 use Rattle.whole.specs.Range.{at, Within}
 use Rattle.whole.specs.Divisor.{Divides4}
-use Rattle.plane.specs.Plane.{Pair, Point, determinantOf, Interval, Closed}
+use Rattle.plane.specs.Plane.{Pair, Point, determinantOf, Interval}
 use Rattle.digits.specs.Types.{System}
 use Rattle.digits.specs.System.{transformation, interval}
+use Rattle.cover.specs.Cover.{Covers}
 use Rattle.admission.specs.Types.{Admission, Admitted, WrongCount, OutOfRange, NotAbove, NotBelow, NotLowest, Uncovered}
 
 -- "every number lies in −100..100"
@@ -41,14 +42,11 @@ DigitsBelow s n = (a : ℕ) → a < n → DigitAt s a
 abbrev pub Digits : System → Type 0
 Digits s = DigitsBelow s (s .count)
 
--- "every point lies in the closed interval of some digit"
-abbrev pub Covers : System → Pair → Type 0
-Covers s z = (a : ℕ) × (a < s .count) × Closed (interval s a) z
-
 pub record Admissible (s : System) : Type 0 where
   pub some-digits : 1 ≤ s .count
   pub few-digits : s .count ≤ 16
   pub digits : Digits s
+  -- "and every point lies in the closed interval of some digit"
   pub cover : (z : Pair) → Point z → Covers s z
 
 -- ---- when each answer is given

@@ -6,7 +6,6 @@ ghost use Rattle.digits.specs.System.{lent, Stored};
 ghost use Rattle.admission.specs.Admission.{refusalNumber, rowsVerdict, admissionOf};
 use digits::System;
 
-mod cover; // cover.rt: refusal 10
 mod row; // row.rt: refusals 6 to 9
 
 // What the judgement of a system answers: admitted, or which rule it breaks first. `refusalNumber` gives document 01's number for each.

@@ -17,10 +17,10 @@ fn lowest_ends(w: [i64; 4]) -> bool
 pub(crate) fn row_verdict(f: [i64; 4], w: [i64; 4]) -> Admission
     ensures { λ r. ⌜ r ≡ rowVerdict f w ⌝ }
 {
-    if !plane::within(f, 100) {
+    if !ranges::within(f, 100) {
         return Admission::OutOfRange;
     }
-    if !plane::within(w, 100) {
+    if !ranges::within(w, 100) {
         return Admission::OutOfRange;
     }
     if plane::determinant(f) <= 0 {

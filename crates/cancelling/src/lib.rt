@@ -17,11 +17,15 @@ pub fn divisor_of_two(x: i64, y: i64) -> u64
 pub fn divisor(m: [i64; 4]) -> u64
     ensures { λ r. ⌜ r ≡ gcd4 m ⌝ }
 {
-    let f = divisor_of_two(m[0], m[1]);
+    let a = whole::magnitude(m[0]);
+    let b = whole::magnitude(m[1]);
+    let c = whole::magnitude(m[2]);
+    let d = whole::magnitude(m[3]);
+    let f = whole::gcd(a, b);
     if f == 1 {
         return 1;
     }
-    whole::gcd(f, divisor_of_two(m[2], m[3]))
+    whole::gcd(f, whole::gcd(c, d))
 }
 
 // The four numbers divided by a divisor of them. Signs stay.

@@ -8,6 +8,6 @@ pub use Rattle.digits.proofs.Places.{numbers-near}
 -- the definitions
 pub use Rattle.digits.specs.BuiltIn.{filled, joined, minus, row, rowsB, rowsD, rowsR}
 unfoldable pub use Rattle.digits.specs.BuiltIn.{systemOf}
-pub use Rattle.digits.specs.System.{DigitThere, SameDigits, Stored, interval, lent, transformation}
+pub use Rattle.digits.specs.System.{DigitThere, SameDigits, Stored, Small, interval, lent, transformation}
 unfoldable pub use Rattle.digits.specs.System.{fourAt, intervalAt, transformationAt}
 pub use Rattle.digits.specs.Types.{System}

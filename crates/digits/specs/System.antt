@@ -5,7 +5,7 @@ use mathlib.Core.List.{List, [], _∷_}
 use Prim.Native.Nat.{ℕ, _+_, _*_, _≤_, _<_}
 use lib.ListN.{length}
 use lib.IntN.{ℤ}
-use Rattle.whole.specs.Range.{at}
+use Rattle.whole.specs.Range.{at, Within}
 use Rattle.digits.specs.Types.{System}
 
 -- ---- the numbers of a digit
@@ -42,6 +42,10 @@ pub record DigitThere (rows : List ℤ) (a : ℕ) : Type 0 where
 -- the numbers of a system's digits are there, if a system can have as many
 pub record Stored (s : System) : Type 0 where
   pub there : s .count ≤ 16 → 8 * s .count ≤ length (s .rows)
+
+-- the numbers of its intervals lie within ±100, so that no determinant of theirs leaves 64 bits
+pub record Small (s : System) : Type 0 where
+  pub small : (a : ℕ) → a < s .count → Within 100 (interval s a)
 
 -- "what is kept for the digits a system hasn't got .. no answer depends on it": the same digits, if a system can have as many, whatever stands behind them
 pub record SameDigits (s t : System) : Type 0 where

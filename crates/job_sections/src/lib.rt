@@ -1,9 +1,7 @@
 // The sections of a job file: document 01's section "Job file". Each is read from the bytes from its count on. For the crate `jobs`; nothing here is for plug-ins.
 ghost use mathlib.Core.Path.{_≡_};
-ghost use Prim.Native.Nat.{_+_, _*_, _<_, _≤_};
+ghost use Prim.Native.Nat.{_+_, _*_, _≤_};
 ghost use lib.ListN.{length};
-ghost use Rattle.sections.specs.Bytes.{pairAt};
-ghost use Rattle.sections.specs.Section.{presence as presenceOf};
 ghost use Rattle.sections.specs.Answered.{Answered};
 ghost use Rattle.digits.specs.BuiltIn.{filled};
 ghost use Rattle.job_sections.specs.Sections.{numberAt, numbersIn, system as systemOf, matrix as matrixOf};
@@ -22,47 +20,16 @@ pub struct MatrixSection {
     pub matrix: [i64; 4],
 }
 
-// Two bytes, low byte first.
-pub fn pair_at(bytes: &[u8], p: usize) -> usize
-    requires { ⌜ p + 2 ≤ length (now bytes) ⌝ }
-    ensures { λ r. ⌜ (r ≡ pairAt (now (bytes .entry)) p) × (r < 65536) ⌝ }
-{
-    let low = bytes[p] as usize;
-    let high = bytes[p + 1] as usize;
-    low + 256 * high
-}
-
 // A signed number of two bytes, two's complement.
 fn number_at(bytes: &[u8], p: usize) -> i16
     requires { ⌜ p + 2 ≤ length (now bytes) ⌝ }
     ensures { λ r. ⌜ r ≡ numberAt (now (bytes .entry)) p ⌝ }
 {
-    let u = pair_at(bytes, p);
+    let u = sections::pair_at(bytes, p);
     if u < 32768 {
         return u as i16;
     }
     (u as i64 - 65536) as i16
-}
-
-// A section's count is there (1), it is right, and as many bytes are there as it asks for (1): the number of the refusal, or 0.
-pub fn presence(bytes: &[u8], least: usize, most: usize, wrong: u8, unit: usize) -> u8
-    requires { ⌜ unit ≤ 16 ⌝ }
-    ensures { λ r. ⌜ r ≡ presenceOf (record { least = least; most = most; wrong = wrong; unit = unit }) (now (bytes .entry)) ⌝ }
-{
-    if bytes.len() < 2 {
-        return 1;
-    }
-    let count = pair_at(bytes, 0);
-    if count < least {
-        return wrong;
-    }
-    if most < count {
-        return wrong;
-    }
-    if bytes.len() < 2 + unit * count {
-        return 1;
-    }
-    0
 }
 
 // All numbers of the bytes become the rows of a system, with 0 in the places that are left.
@@ -83,7 +50,7 @@ fn rows_in(bytes: &[u8], k: usize) -> [i16; 128]
 pub fn system_section(bytes: &[u8]) -> SystemSection
     ensures { λ r. ⌜ Answered systemOf (now (bytes .entry)) (r .number) (r .size) (r .system) ⌝ }
 {
-    let number = presence(bytes, 1, 16, 3, 16);
+    let number = sections::presence(bytes, 1, 16, 3, 16);
     if number != 0 {
         let system = System {
             count: 0,
@@ -95,7 +62,7 @@ pub fn system_section(bytes: &[u8]) -> SystemSection
             system,
         };
     }
-    let count = pair_at(bytes, 0);
+    let count = sections::pair_at(bytes, 0);
     let size = 2 + 16 * count;
     let rows = rows_in(&bytes[2..size], 8 * count);
     let number = admission::refusal_number(admission::admission_of(count, &rows));
@@ -111,7 +78,7 @@ pub fn system_section(bytes: &[u8]) -> SystemSection
 pub fn matrix_section(bytes: &[u8]) -> MatrixSection
     ensures { λ r. ⌜ Answered matrixOf (now (bytes .entry)) (r .number) (r .size) (r .matrix) ⌝ }
 {
-    let number = presence(bytes, 4, 4, 4, 2);
+    let number = sections::presence(bytes, 4, 4, 4, 2);
     if number != 0 {
         return MatrixSection {
             number,

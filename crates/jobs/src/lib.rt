@@ -76,11 +76,11 @@ pub fn read(file: &[u8]) -> Reading
     }
     let c = b + third.size;
     let rest = &file[c..];
-    let number = job_sections::presence(rest, 0, 4096, 5, 1);
+    let number = sections::presence(rest, 0, 4096, 5, 1);
     if number != 0 {
         return refused(number, 3);
     }
-    let length = job_sections::pair_at(rest, 0);
+    let length = sections::pair_at(rest, 0);
     if 2 + length < rest.len() {
         return refused(2, 3);
     }

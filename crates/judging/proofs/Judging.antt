@@ -1,8 +1,8 @@
 -- "A run judges its input system (3, 6 to 10), its output system, then the state (12), before any step." The test of refusal 12 says exactly the rules for a state;
 -- nothing is refused exactly if both systems are admitted and the state keeps the rules; a refusal has one of those numbers.
 -- The argument goes through the three judgements in their order: the first number that is not 0 decides.
-use Rattle.whole.proofs.Laws.{_≡_, refl, Bool, true, false, cond, _&&_, _⊎_, inl, inr, _↔_, ℕ, zero, suc, arith, ltb-true, lt-ltb, eqb-true, eq-eqb, pos, ltZ, gcd4, unlessRefused, lt-true, true-lt, both-true, true-both}
-use Rattle.plane.proofs.Laws.{determinantOf, within?, lowest?, within-says, says-within}
+use Rattle.whole.proofs.Laws.{_≡_, refl, Bool, true, false, cond, _&&_, _⊎_, inl, inr, _↔_, ℕ, zero, suc, arith, ltb-true, lt-ltb, eqb-true, eq-eqb, pos, ltZ, gcd4, unlessRefused, lt-true, true-lt, both-true, true-both, within?, lowest?, within-says, says-within}
+use Rattle.plane.proofs.Laws.{determinantOf}
 use Rattle.digits.proofs.Laws.{System, Stored}
 use Rattle.admission.proofs.Laws.{Admitted, refusalNumber, admissionOf, SystemNumber, number-0, admission-number, admitted-few, admitted-digits}
 use Rattle.states.proofs.Laws.{Held, Nothing, Digit, State, HeldDigit, StateRules}

@@ -6,7 +6,8 @@ use lib.IntN.{pos}
 use lib.Signed.{ltZ}
 use Rattle.whole.specs.Refusal.{unlessRefused}
 use Rattle.plane.specs.Plane.{determinantOf}
-use Rattle.plane.specs.Tests.{within?, lowest?}
+use Rattle.whole.specs.Range.{within?}
+use Rattle.whole.specs.Divisor.{lowest?}
 use Rattle.admission.specs.Admission.{refusalNumber, admissionOf}
 use Rattle.states.specs.Types.{Held, Nothing, Digit, State}
 use Rattle.steps.specs.Step.{Setting}

@@ -5,8 +5,8 @@
 --   giving b:  k·(P·X) = d·(C·Q) goes on by `gave-scale`. For the digits before b nothing changes, since G_b(X'(t)) is X(t) again, as a point. For b itself: t lies in
 --              closed W_held, so X(t) lies in closed X·W_held, and so in closed U_b, which includes it. This is why a digit that was given out never has to be recalled.
 --   absorbing: the equation goes on by `absorbed-scale`; and what is claimed at t is what was claimed before at F_h(t), since X'(t) is X(F_h(t)), as a point.
-use Rattle.whole.proofs.Laws.{_≡_, refl, sym, _∙_, ap, subst, List, [], _∷_, _++_, append-nil, Option, none, some, ℕ, _*_, _<_, arith, ltb-true, ltb, ℤ, pos, _<ℤ_, gcd4, ps-mul, up<}
-use Rattle.plane.proofs.Laws.{Pair, apply, multiplyOf, cancelOf, Closed, scaleOf, DetAbove, within?, multiply-identity-left, multiply-identity-right, det-above-multiply, det-above-pseudoinverse, cancel-det-above, divisor-above, interval-moves, closed-moves, closed-same}
+use Rattle.whole.proofs.Laws.{_≡_, refl, sym, _∙_, ap, subst, List, [], _∷_, _++_, append-nil, Option, none, some, ℕ, _*_, _<_, arith, ltb-true, ltb, ℤ, pos, _<ℤ_, gcd4, ps-mul, up<, within?}
+use Rattle.plane.proofs.Laws.{Pair, apply, multiplyOf, cancelOf, Closed, scaleOf, DetAbove, multiply-identity-left, multiply-identity-right, det-above-multiply, det-above-pseudoinverse, cancel-det-above, divisor-above, interval-moves, closed-moves, closed-same}
 use Rattle.inclusion.proofs.Laws.{included-says, says-included, closed-included}
 use Rattle.digits.proofs.Laws.{transformation, interval}
 use Rattle.admission.proofs.Laws.{Digits}

@@ -3,14 +3,14 @@
 -- The sessions are computed by the checker from the definitions of opening and `run`. Then what `session-product` and `session-numbers` say of them, in plain numbers:
 -- in `whole-word` at the rest 1/1, and in `half-way` at the rest 2/1, which the held digit 1 makes of 1/1. Both times the input names 2/5, of which the matrix makes
 -- 9/12, and the output names 9/12 in front of what is still to come. Last, the held digit is not absorbed: with it counted in, the product is another.
-use Rattle.whole.proofs.Laws.{_≡_, refl, ap, List, [], _∷_, ℕ, _*_, arith, replicate, ℤ, pos, natAbs, at, gcdBy, gcd, gcd4, first, unlessRefused, up<}
-use Rattle.plane.proofs.Laws.{Point, SamePoint, determinantOf, pseudoinverseOf, apply, multiplyOf, Closed, imageOf, cancelOf, scaleOf, within?, above-not-0}
+use Rattle.whole.proofs.Laws.{_≡_, refl, ap, List, [], _∷_, ℕ, _*_, arith, replicate, ℤ, pos, natAbs, at, gcdBy, gcd, gcd4, first, unlessRefused, up<, within?}
+use Rattle.plane.proofs.Laws.{Point, SamePoint, determinantOf, pseudoinverseOf, apply, multiplyOf, Closed, imageOf, cancelOf, scaleOf, above-not-0}
 use Rattle.inclusion.proofs.Laws.{closed?, same?, included?}
 use Rattle.digits.proofs.Laws.{fourAt, transformationAt, intervalAt, rowsR, systemOf}
 use Rattle.admission.proofs.Laws.{rowVerdict, rowsVerdict, admissionOf, r-admitted}
 use Rattle.runs.proofs.Laws.{follow, runBy, run, judgedRun}
 use Rattle.states.proofs.Laws.{Nothing, Digit, State}
-use Rattle.steps.proofs.Laws.{fittingOf}
+use Rattle.fitting.proofs.Laws.{fittingOf}
 use Rattle.opening.proofs.Laws.{openOf}
 use Rattle.judging.proofs.Laws.{state?, refusalOf}
 use Rattle.unary.proofs.Laws.{courseOf}

@@ -7,5 +7,5 @@ pub use Rattle.numbers.proofs.Lists.{known}
 -- what is written is read back as what it was written for
 pub use Rattle.numbers.proofs.ReadBack.{r-back, b-back, d-back, system-back, Byte, held-back, state-back}
 -- the definitions
-pub use Rattle.numbers.specs.Numbers.{wrongLength}
-unfoldable pub use Rattle.numbers.specs.Numbers.{stateAfter, stateNumbers, systemFrom}
+pub use Rattle.numbers.specs.Numbers.{wrongLength, wrote}
+unfoldable pub use Rattle.numbers.specs.Numbers.{stateAfter, stateNumbers, systemFrom, intoExactly, handedOut}

@@ -9,7 +9,7 @@ use lib.Signed.{ltZ}
 use Rattle.whole.specs.Range.{at}
 use Rattle.plane.specs.Scale.{entries}
 use Rattle.digits.specs.Types.{System}
-use Rattle.digits.specs.BuiltIn.{filled}
+use Rattle.digits.specs.BuiltIn.{joined, filled}
 use Rattle.states.specs.Types.{Held, Nothing, Digit, State, Stop}
 use Rattle.states.specs.State.{refused?}
 
@@ -47,3 +47,19 @@ stateFrom l = record { matrix = entries l; held = heldFrom (at l 4) }
 -- the five numbers behind a run: a refusal leaves them as they came, whatever they were
 unfoldable pub stateAfter : Stop → State → List ℤ → List ℤ
 stateAfter stop s old = cond (refused? stop) old (stateNumbers s)
+
+-- ---- what a function that writes numbers leaves: its answer, and the numbers
+pub record Wrote : Type 0 where
+  pub number : ℕ
+  pub numbers : List ℤ
+
+abbrev pub wrote : ℕ → List ℤ → Wrote
+wrote n l = record { number = n; numbers = l }
+
+-- ---- a built-in system: its rows, into a slice of exactly as many numbers
+unfoldable pub intoExactly : ℕ → List ℤ → List ℤ → Wrote
+intoExactly n rows old = cond (eqb (length old) n) (wrote 0 rows) (wrote wrongLength old)
+
+-- a built-in system, by its table
+unfoldable pub handedOut : List (List ℤ) → List ℤ → Wrote
+handedOut table old = intoExactly (length (joined table)) (joined table) old

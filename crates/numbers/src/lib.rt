@@ -1,11 +1,11 @@
-// How a plug-in writes a system and a state: as plain numbers in slices of its own. Crates `run_call` and `read_call` have the calls, `plugin` the C functions.
+// How a plug-in writes a system and a state: as plain numbers in slices of its own. Crates `open_call`, `run_call` and `read_call` have the calls, `plugin` the C functions.
 // A system is its rows, eight numbers a digit; a state is five numbers, the matrix and the held digit or −1.
 ghost use mathlib.Core.Path.{_≡_};
 ghost use mathlib.Core.List.{_++_};
 ghost use Prim.Native.Nat.{_≤_};
 ghost use lib.ListN.{length, take, drop};
 ghost use Rattle.plane.specs.Scale.{entries};
-ghost use Rattle.numbers.specs.Numbers.{heldNumber, stateNumbers, heldFrom, stateFrom};
+ghost use Rattle.numbers.specs.Numbers.{heldNumber, stateNumbers, heldFrom, stateFrom, wrote, intoExactly};
 use digits::System;
 use states::Held;
 use states::State;
@@ -26,6 +26,18 @@ pub fn put_rows(s: System, to: &mut [i16])
         to[i] = rows[i];
         i += 1;
     }
+}
+
+// The first n numbers of a system's rows, into a slice of exactly as many.
+pub fn hand_out(s: System, n: usize, rows: &mut [i16]) -> u32
+    requires { ⌜ n ≤ 128 ⌝ }
+    ensures { λ r. ⌜ wrote r (now (rows .exit)) ≡ intoExactly n (take n (s .rows)) (now (rows .entry)) ⌝ }
+{
+    if rows.len() != n {
+        return WRONG_LENGTH;
+    }
+    put_rows(s, rows);
+    0
 }
 
 // ---- a state

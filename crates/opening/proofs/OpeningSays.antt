@@ -1,6 +1,6 @@
 -- Opening: "6, then 11". Each answer is given exactly in its case; and where it opens, the state that is handed out keeps the rules for a state.
-use Rattle.whole.proofs.Laws.{_≡_, refl, sym, _∙_, ap, subst, Bool, true, false, cond, true≢false, List, _↔_, ℕ, ℤ, pos, ltZ, clashℤ, Within, within-le, lt-true, lt-false}
-use Rattle.plane.proofs.Laws.{determinantOf, within?, within-says, says-within, cancel-within}
+use Rattle.whole.proofs.Laws.{_≡_, refl, sym, _∙_, ap, subst, Bool, true, false, cond, true≢false, List, _↔_, ℕ, ℤ, pos, ltZ, clashℤ, Within, within-le, lt-true, lt-false, within?, within-says, says-within}
+use Rattle.plane.proofs.Laws.{determinantOf, cancel-within}
 use Rattle.states.proofs.Laws.{StateRules, cancelled-rules}
 use Rattle.opening.specs.Types.{Opening, Opens, OutOfRange, NotAbove, Start}
 use Rattle.opening.specs.Opening.{openingOf, openOf, OpeningCase, startOf}

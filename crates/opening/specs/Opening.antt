@@ -4,9 +4,8 @@ use mathlib.Core.List.{List, [], _∷_}
 use Prim.Native.Nat.{ℕ}
 use lib.IntN.{ℤ, pos}
 use lib.Signed.{ltZ, _≤ℤ_, _<ℤ_}
-use Rattle.whole.specs.Range.{Within}
+use Rattle.whole.specs.Range.{Within, within?}
 use Rattle.plane.specs.Plane.{determinantOf, cancelOf}
-use Rattle.plane.specs.Tests.{within?}
 use Rattle.states.specs.State.{opened}
 use Rattle.opening.specs.Types.{Opening, Opens, OutOfRange, NotAbove, Start}
 

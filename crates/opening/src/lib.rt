@@ -31,7 +31,7 @@ pub struct Start {
 pub fn opening_of(m: [i64; 4]) -> Opening
     ensures { λ r. ⌜ r ≡ openingOf m ⌝ }
 {
-    if !plane::within(m, 1000) {
+    if !ranges::within(m, 1000) {
         return Opening::OutOfRange;
     }
     if plane::determinant(m) <= 0 {

@@ -19,12 +19,10 @@ pub use Rattle.plane.proofs.Ends.{ends-scaled, inside-ends, inside-ends
 -- cancelling
 pub use Rattle.plane.proofs.Cancelling.{times-entries, scale-times, divisor-above, cancel-times, cancel-lowest, cancel-det-above, CancelSays, cancel-says}
 -- machine words, and ranges
-pub use Rattle.plane.proofs.MachineNumbers.{held, Fits, read, size, determinant-asks, determinant-held, above, below}
-pub use Rattle.plane.proofs.Ranges.{within-says, says-within, within-products, pseudoinverse-within, multiply-within, image-within, cancel-within, gcd4-within}
+pub use Rattle.plane.proofs.MachineNumbers.{read, determinant-asks, determinant-held, above, below}
+pub use Rattle.plane.proofs.Ranges.{within-products, pseudoinverse-within, multiply-within, image-within, cancel-within, gcd4-within}
 -- the definitions
 pub use Rattle.plane.specs.Plane.{Closed, Inside, Interval, Pair, Point, SamePoint, det, left, right}
 unfoldable pub use Rattle.plane.specs.Plane.{apply, cancelOf, determinantOf, imageOf, multiplyOf, pseudoinverseOf}
 pub use Rattle.plane.specs.Scale.{DetAbove, entries}
 unfoldable pub use Rattle.plane.specs.Scale.{scaleOf, scalePair}
-pub use Rattle.plane.specs.Tests.{lowest?}
-unfoldable pub use Rattle.plane.specs.Tests.{within?}

@@ -1,24 +1,10 @@
 -- What the function proofs say of 64-bit words: a word holds the number that was stored in it, if that fits.
-use Rattle.whole.proofs.Laws.{_≡_, sym, ap, _∙_, Bool, true, false, not, [], _∷_, ℕ, _+_, _*_, _^_, _<_, T, ltb, ℤ, pos, natAbs, _-ℤ_, _*ℤ_, mag, leZ, ltZ, Near, back, near-back, ok-back, back-of, Stands, le-true, le-false, true-lt, false-lt}
-use mir.Syntax.{w64}
-use mir.Val.{ofZ, toZ}
+use Rattle.whole.proofs.Laws.{_≡_, sym, ap, _∙_, Bool, true, false, not, [], _∷_, ℕ, _+_, _*_, _^_, T, ltb, ℤ, pos, _-ℤ_, _*ℤ_, leZ, ltZ, Near, back, near-back, ok-back, Stands, le-true, le-false, true-lt, false-lt, held, Fits}
 use Rattle.plane.specs.Fits.{Products}
 use Rattle.plane.specs.Plane.{determinantOf}
 
--- what is read back where z was stored
-abbrev pub held : ℤ → ℤ
-held z = toZ w64 (ofZ w64 z)
-
--- z fits a word, as the check tells it of an element that was read from an array and of a call's result
-abbrev pub Fits : ℤ → Type 0
-Fits z = mag z < 2 ^ 63
-
 pub read : {b : ℕ} {z : ℤ} → Fits z → Near b z → Stands b (held z) z
 read fits h = record { is = ok-back fits; near = h }
-
--- what `magnitude` ensures of the word that holds z
-pub size : (z : ℤ) {n : ℕ} → Fits z → n ≡ natAbs (held z) → n ≡ natAbs z
-size z fits e = e ∙ ap natAbs (back-of z fits)
 
 -- ---- a determinant of two pairs that words hold: what `determinant` asks, and what its answer is then
 

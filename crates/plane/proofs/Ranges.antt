@@ -2,30 +2,8 @@
 -- The crates above show by these what the functions require.
 use Rattle.whole.proofs.Laws.{_≡_, true, _&&_, List, inl, inr, ℕ, suc, _+_, _-_, _*_, _^_, _≤_, _<_, _∣_, arith, le-leb, T, ltb, leb, ℤ, natAbs, _+ℤ_, _*ℤ_, at, Near, Within, gcd4, divided, Divides4, both-true, true-both, near-neg, near-mul, near-add, near-quot, gcd4-divides, gcd4-greatest}
 use native.Mathlib.Nat as N
-use borrow.Author.Tests.{leb-true}
-use Rattle.plane.specs.Tests.{within?}
 use Rattle.plane.specs.Fits.{Products}
 use Rattle.plane.specs.Plane.{pseudoinverseOf, multiplyOf, apply, imageOf, cancelOf}
-
--- ---- the test on a range says so
-
-near-says : (b : ℕ) (z : ℤ) → leb (natAbs z) b ≡ true → Near b z
-near-says b z e = record { near = leb-true (natAbs z) b e }
-
-says-near : {b : ℕ} {z : ℤ} → Near b z → leb (natAbs z) b ≡ true
-says-near {b} {z} h = le-leb (natAbs z) b (h .near)
-
-pub within-says : (b : ℕ) (m : List ℤ) → within? b m ≡ true → Within b m
-unfolding within?
-within-says b m e =
-    let p = both-true (leb (natAbs (at m 0)) b && leb (natAbs (at m 1)) b && leb (natAbs (at m 2)) b) (leb (natAbs (at m 3)) b) e in
-    let q = both-true (leb (natAbs (at m 0)) b && leb (natAbs (at m 1)) b) (leb (natAbs (at m 2)) b) (p .0) in
-    let r = both-true (leb (natAbs (at m 0)) b) (leb (natAbs (at m 1)) b) (q .0) in
-    record { n0 = near-says b (at m 0) (r .0); n1 = near-says b (at m 1) (r .1); n2 = near-says b (at m 2) (q .1); n3 = near-says b (at m 3) (p .1) }
-
-pub says-within : {b : ℕ} {m : List ℤ} → Within b m → within? b m ≡ true
-unfolding within?
-says-within h = true-both (true-both (true-both (says-near (h .n0)) (says-near (h .n1))) (says-near (h .n2))) (says-near (h .n3))
 
 -- ---- what `determinant` asks
 

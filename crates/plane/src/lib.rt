@@ -2,13 +2,10 @@
 // A state's entries lie within ±1,000,000,000 and a digit's numbers within ±100, so the entries of their products and the ends of an image lie within ±200,000,000,000,
 // and no determinant that is formed here leaves 64 bits.
 ghost use mathlib.Core.Path.{_≡_};
-ghost use mathlib.Core.Bool.{_&&_};
-ghost use lib.Dec.{leb};
-ghost use lib.IntN.{natAbs, _+ℤ_, _*ℤ_};
+ghost use lib.IntN.{_+ℤ_, _*ℤ_};
 ghost use Rattle.whole.specs.Range.{Near, Within};
 ghost use Rattle.plane.specs.Fits.{Products};
 ghost use Rattle.plane.specs.Plane.{determinantOf, pseudoinverseOf, multiplyOf, imageOf};
-ghost use Rattle.plane.specs.Tests.{within?};
 
 // "Its determinant is ad − bc." Of the two ends of an interval, written x0 x1 y0 y1, it is det(x, y).
 pub fn determinant(m: [i64; 4]) -> i64
@@ -62,24 +59,4 @@ pub fn image(m: [i64; 4], w: [i64; 4]) -> [i64; 4]
 {
     let p = multiply(m, [w[0], w[2], w[1], w[3]]);
     [p[0], p[2], p[1], p[3]]
-}
-
-// Whether two numbers lie in −b..b.
-fn both_near(x: i64, y: i64, b: u64) -> bool
-    ensures { λ r. ⌜ r ≡ (leb (natAbs x) b && leb (natAbs y) b) ⌝ }
-{
-    if b < whole::magnitude(x) {
-        return false;
-    }
-    whole::magnitude(y) <= b
-}
-
-// Whether four numbers lie in −b..b. Of any four numbers at all.
-pub fn within(m: [i64; 4], b: u64) -> bool
-    ensures { λ r. ⌜ r ≡ within? b m ⌝ }
-{
-    if !both_near(m[0], m[1], b) {
-        return false;
-    }
-    both_near(m[2], m[3], b)
 }

@@ -3,14 +3,16 @@
 use Rattle.whole.proofs.Laws.{_≡_, sym, _∙_, List, ℕ, ℤ}
 use Rattle.run_call.proofs.Laws.{AfterRun, runCall}
 use Rattle.read_call.proofs.Laws.{AfterRead, readCall}
-use Rattle.plugin.specs.Calls.{admitNumber, wrote, handedOut, openCall}
+use Rattle.numbers.proofs.Laws.{wrote, handedOut}
+use Rattle.open_call.proofs.Laws.{openCall}
+use Rattle.plugin.specs.Calls.{admitNumber}
 
 pub one-admission : (rows : List ℤ) (r r′ : ℕ) → r ≡ admitNumber rows → r′ ≡ admitNumber rows → r ≡ r′
 one-admission rows r r′ p q = p ∙ sym q
 
-pub one-built-in : (rows old : List ℤ) (r r′ : ℕ) (new new′ : List ℤ) →
-    wrote r new ≡ handedOut rows old → wrote r′ new′ ≡ handedOut rows old → wrote r new ≡ wrote r′ new′
-one-built-in rows old r r′ new new′ p q = p ∙ sym q
+pub one-built-in : (table : List (List ℤ)) (old : List ℤ) (r r′ : ℕ) (new new′ : List ℤ) →
+    wrote r new ≡ handedOut table old → wrote r′ new′ ≡ handedOut table old → wrote r new ≡ wrote r′ new′
+one-built-in table old r r′ new new′ p q = p ∙ sym q
 
 pub one-opening : (m old : List ℤ) (r r′ : ℕ) (new new′ : List ℤ) →
     wrote r new ≡ openCall m old → wrote r′ new′ ≡ openCall m old → wrote r new ≡ wrote r′ new′

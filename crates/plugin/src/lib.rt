@@ -1,13 +1,12 @@
 // The library for other languages: C functions over numbers and slices. include/sledhillock.h says what each promises, in a C author's words.
-// Crate `numbers` has how a system and a state are written; a run and reading are in `run_call` and `read_call`. A slice of the wrong length is refused by 40, and nothing is written.
+// Crate `numbers` has how a system and a state are written; what the calls do is in `open_call`, `run_call` and `read_call`. A slice of the wrong length is refused by 40, and nothing is written.
 ghost use mathlib.Core.Path.{_≡_};
-ghost use Prim.Native.Nat.{_≤_};
-ghost use lib.ListN.{take};
-ghost use Rattle.digits.specs.BuiltIn.{joined, rowsR, rowsB, rowsD};
+ghost use Rattle.digits.specs.BuiltIn.{rowsR, rowsB, rowsD};
 ghost use Rattle.run_call.specs.RunCall.{afterRun, runCall};
 ghost use Rattle.read_call.specs.ReadCall.{afterRead, readCall};
-ghost use Rattle.plugin.specs.Calls.{admitNumber, wrote, intoExactly, handedOut, openCall};
-use digits::System;
+ghost use Rattle.numbers.specs.Numbers.{wrote, handedOut};
+ghost use Rattle.open_call.specs.OpenCall.{openCall};
+ghost use Rattle.plugin.specs.Calls.{admitNumber};
 use numbers::WRONG_LENGTH;
 
 // Whether a system is admitted: 0, or the number of the first rule that it breaks.
@@ -21,40 +20,28 @@ pub extern "C" fn sled_admit(rows: &[i16]) -> u32
     admission::refusal_number(admission::admission_of(rows.len() / 8, rows)) as u32
 }
 
-// The first n numbers of a system's rows, into a slice of exactly as many.
-fn hand_out(s: System, n: usize, rows: &mut [i16]) -> u32
-    requires { ⌜ n ≤ 128 ⌝ }
-    ensures { λ r. ⌜ wrote r (now (rows .exit)) ≡ intoExactly n (take n (s .rows)) (now (rows .entry)) ⌝ }
-{
-    if rows.len() != n {
-        return WRONG_LENGTH;
-    }
-    numbers::put_rows(s, rows);
-    0
-}
-
 // The built-in system R: 32 numbers.
 #[no_mangle]
 pub extern "C" fn sled_system_r(rows: &mut [i16]) -> u32
-    ensures { λ r. ⌜ wrote r (now (rows .exit)) ≡ handedOut (joined rowsR) (now (rows .entry)) ⌝ }
+    ensures { λ r. ⌜ wrote r (now (rows .exit)) ≡ handedOut rowsR (now (rows .entry)) ⌝ }
 {
-    hand_out(digits::system_r(), 32, rows)
+    numbers::hand_out(digits::system_r(), 32, rows)
 }
 
 // The built-in system B: 64 numbers.
 #[no_mangle]
 pub extern "C" fn sled_system_b(rows: &mut [i16]) -> u32
-    ensures { λ r. ⌜ wrote r (now (rows .exit)) ≡ handedOut (joined rowsB) (now (rows .entry)) ⌝ }
+    ensures { λ r. ⌜ wrote r (now (rows .exit)) ≡ handedOut rowsB (now (rows .entry)) ⌝ }
 {
-    hand_out(digits::system_b(), 64, rows)
+    numbers::hand_out(digits::system_b(), 64, rows)
 }
 
 // The built-in system D: 32 numbers.
 #[no_mangle]
 pub extern "C" fn sled_system_d(rows: &mut [i16]) -> u32
-    ensures { λ r. ⌜ wrote r (now (rows .exit)) ≡ handedOut (joined rowsD) (now (rows .entry)) ⌝ }
+    ensures { λ r. ⌜ wrote r (now (rows .exit)) ≡ handedOut rowsD (now (rows .entry)) ⌝ }
 {
-    hand_out(digits::system_d(), 32, rows)
+    numbers::hand_out(digits::system_d(), 32, rows)
 }
 
 // Opens a session for a matrix of four numbers: 0, and the state's five numbers are written; or the number of the refusal, and nothing is written.
@@ -62,21 +49,7 @@ pub extern "C" fn sled_system_d(rows: &mut [i16]) -> u32
 pub extern "C" fn sled_open(matrix: &[i64], state: &mut [i64]) -> u32
     ensures { λ r. ⌜ wrote r (now (state .exit)) ≡ openCall (now (matrix .entry)) (now (state .entry)) ⌝ }
 {
-    if matrix.len() != 4 {
-        return WRONG_LENGTH;
-    }
-    if state.len() != 5 {
-        return WRONG_LENGTH;
-    }
-    let start = opening::open(numbers::matrix_from(matrix));
-    let opening = start.opening;
-    let s = start.state;
-    let number = opening::opening_number(opening);
-    if number != 0 {
-        return number as u32;
-    }
-    numbers::put_state(s, state);
-    0
+    open_call::open(matrix, state)
 }
 
 // Runs: takes bytes of the input and writes digits to the output until a step stops. Answers why; the state and the two counts, taken and written, are written back.

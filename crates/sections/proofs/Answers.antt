@@ -4,7 +4,7 @@ use borrow.Rule.Slice.PartAt.{part-to-end}
 use Rattle.sections.specs.Section.{Limits, sizeOf, presence, Present, Section, valueOf, numberOf}
 use Rattle.sections.specs.File.{File, ends, nothing, _then_}
 use Rattle.sections.specs.Answered.{Answered}
-use Rattle.sections.proofs.Presence.{absent-number, presence-says}
+use Rattle.sections.proofs.Counted.{absent-number, presence-says}
 use Rattle.sections.proofs.Sections.{present-number}
 use Rattle.sections.proofs.Files.{follows}
 

@@ -4,7 +4,7 @@ use Rattle.sections.specs.Bytes.{Bytes}
 use Rattle.sections.specs.Section.{sizeOf, limit, Section, bytesOf, Rules, valueOf, numberOf, Lawful as LawfulSection}
 use Rattle.sections.specs.File.{File, bytes-follow, ends, nothing, here, later, _then_, Says, reads, refuses, Exact, Lawful}
 use Rattle.sections.proofs.Bytes.{drop-bytes, or-all}
-use Rattle.sections.proofs.Presence.{absent-number, presence-says}
+use Rattle.sections.proofs.Counted.{absent-number, presence-says}
 use Rattle.sections.proofs.Sections.{Begins, begins, present-number, absent-decides, breaks-number, section-says, absent-same, present-same}
 
 -- ---- nothing

@@ -1,8 +1,6 @@
 -- What the crates above may use of this one.
 -- two bytes
 pub use Rattle.sections.proofs.Bytes.{two-bytes}
--- whether a section is there, as code goes
-pub use Rattle.sections.proofs.Presence.{absent-is, few-is, many-is, cut-is, whole-is}
 -- a file of lawful sections is lawful
 pub use Rattle.sections.proofs.Files.{nothing-lawful, then-lawful}
 -- code that reads section after section
@@ -11,5 +9,5 @@ pub use Rattle.sections.proofs.Answers.{present, not-there, answered, R
 pub use Rattle.sections.specs.Answered.{Answered, Taken}
 pub use Rattle.sections.specs.Bytes.{countOf}
 pub use Rattle.sections.specs.File.{Exact, Lawful, _then_, nothing, reads, refuses}
-pub use Rattle.sections.specs.Section.{Present, no-count, sizeOf, valueOf}
+pub use Rattle.sections.specs.Section.{Present, sizeOf, valueOf}
 unfoldable pub use Rattle.sections.specs.Section.{presence}

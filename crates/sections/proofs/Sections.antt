@@ -4,7 +4,7 @@ use lib.Seq.{take-take}
 use Rattle.sections.specs.Bytes.{twoBytes, countOf, Bytes}
 use Rattle.sections.specs.Section.{sizeOf, limit, Absent, no-count, too-few, too-many, cut-off, Present, Section, bytesOf, Rules, Breaks, absent, broken, valueOf, numberOf, Whole, Lawful}
 use Rattle.sections.proofs.Bytes.{drop-bytes, take-bytes, count-first, same-count, same-rest}
-use Rattle.sections.proofs.Presence.{absent-is, present-is, absent-number, presence-says}
+use Rattle.sections.proofs.Counted.{absent-is, present-is, absent-number, presence-says}
 
 -- bytes that begin with a value are read as that value, and go on behind it
 pub record Begins {A : Type 0} (s : Section A) (bytes : List ℕ) (v : A) (more : List ℕ) : Type 0 where

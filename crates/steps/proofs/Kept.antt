@@ -1,23 +1,22 @@
 -- Every step keeps the rules for a state, and every digit that it gives out is one of the output system's: both hold wherever the plan goes on. Loading keeps X and
 -- holds a byte that was tested; giving and absorbing multiply X with a digit's matrix, whose determinant is above 0 (so the product's is), and cancel, after which the
 -- greatest common divisor is 1 and the sign of the determinant is the same (`cancel-says`); the range was tested.
-use Rattle.whole.proofs.Laws.{_≡_, refl, true, List, [], _∷_, _++_, Option, none, some, ℕ, zero, suc, _<_, arith, ltb-true, ltb, length, getD, first-found}
-use Rattle.plane.proofs.Laws.{imageOf, cancelOf, within?, within-says, det-above-multiply, det-above-pseudoinverse}
+use Rattle.whole.proofs.Laws.{_≡_, refl, true, List, [], _∷_, _++_, Option, none, some, ℕ, zero, suc, _<_, arith, ltb-true, ltb, length, getD, within?, within-says}
+use Rattle.plane.proofs.Laws.{imageOf, cancelOf, det-above-multiply, det-above-pseudoinverse}
 use Rattle.inclusion.proofs.Laws.{included?}
 use Rattle.digits.proofs.Laws.{interval}
 use Rattle.admission.proofs.Laws.{Digits}
+use Rattle.fitting.proofs.Laws.{fitting-below, fitting-fits}
 use Rattle.runs.proofs.Laws.{Supply, Deed, nothing, andThen, Going, Each, took-x, gave, follow-each, each-test}
 use Rattle.states.proofs.Laws.{cancelled-rules, Held, Nothing, Digit, State, NotADigit, RangeLeft, loaded, given, absorbed, HeldDigit, StateRules}
-use Rattle.steps.specs.Step.{Setting, fits?, fittingOf, chosen, givenMatrix, absorbedMatrix, heldPlan, planBy, plan, plain}
+use Rattle.steps.specs.Step.{Setting, chosen, givenMatrix, absorbedMatrix, heldPlan, planBy, plan, plain}
 
 -- the digit that is chosen is one of the output system's, and it fits
 pub chosen-below : (y : Setting) (s : State) (h b : ℕ) → chosen y s h ≡ some b → b < y .output .count
-unfolding fittingOf
-chosen-below y s h b e = omega (arith, first-found (fits? (y .output) (imageOf (s .matrix) (interval (y .input) h))) (y .output .count) 0 b e .below)
+chosen-below y s h b e = fitting-below (y .output) _ b e
 
 pub chosen-fits : (y : Setting) (s : State) (h b : ℕ) → chosen y s h ≡ some b → included? (imageOf (s .matrix) (interval (y .input) h)) (interval (y .output) b) ≡ true
-unfolding fittingOf
-chosen-fits y s h b e = first-found (fits? (y .output) (imageOf (s .matrix) (interval (y .input) h))) (y .output .count) 0 b e .passes
+chosen-fits y s h b e = fitting-fits (y .output) _ b e
 
 -- ---- digits that are written
 

@@ -1,6 +1,6 @@
 -- The step goes by plans, so it is lawful and steady (crates/runs): what is to be seen is that a plan pays for the digit that it holds. And why it stops.
-use Rattle.whole.proofs.Laws.{_≡_, refl, _⊎_, inl, inr, Option, none, some, ℕ, suc, _+_, _≤_, arith, ltb}
-use Rattle.plane.proofs.Laws.{cancelOf, within?}
+use Rattle.whole.proofs.Laws.{_≡_, refl, _⊎_, inl, inr, Option, none, some, ℕ, suc, _+_, _≤_, arith, ltb, within?}
+use Rattle.plane.proofs.Laws.{cancelOf}
 use Rattle.runs.proofs.Laws.{Supply, Deed, nothing, cost, Halting, Lawful, Steady, Each, EachStop, took-x, gave, Always, each-test, follow-halts, stop-test, Cheap, planned-lawful, steady-always}
 use Rattle.states.proofs.Laws.{Held, Nothing, Digit, State, Stop, InputUsed, NotADigit, RangeLeft, loaded, given, absorbed, heldCount, endNumber}
 use Rattle.steps.specs.Step.{Setting, chosen, givenMatrix, absorbedMatrix, heldPlan, planBy, plan, plain}

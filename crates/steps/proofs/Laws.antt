@@ -7,7 +7,6 @@ pub use Rattle.steps.proofs.Kept.{chosen-below, chosen-fits, Below, bel
 -- numbers of digits that a system hasn't got change no step
 pub use Rattle.steps.proofs.SamePlan.{same-plan, step-holds}
 -- the definitions
-pub use Rattle.steps.specs.Made.{Follows, Ready, StaysBy, Usable, outcomeBy}
-pub use Rattle.steps.specs.Step.{Setting, absorbedMatrix, chosen, givenMatrix, heldPlan, oneWord, plain, plan, planBy, setting}
-unfoldable pub use Rattle.steps.specs.Step.{fittingOf}
+pub use Rattle.steps.specs.Made.{Follows, Ready, StaysBy, Usable, WorksWith, outcomeBy}
+pub use Rattle.steps.specs.Step.{Setting, absorbedMatrix, chosen, emitPlan, givenMatrix, heldPlan, oneWord, plain, plan, planBy, setting}
 pub use Rattle.steps.specs.Types.{Absorb, Give, Halt, Kind, Load, Move}

@@ -1,6 +1,5 @@
 -- What the plan of a step does, as the functions of src/ meet it: each test comes out, and the plan is followed to its end.
-use Rattle.whole.proofs.Laws.{_≡_, refl, sym, Bool, true, false, cond, List, [], ℕ, zero, suc, _<_, _≤_, ltb, length, drop, getD, drop-of-length-le}
-use Rattle.plane.proofs.Laws.{within?}
+use Rattle.whole.proofs.Laws.{_≡_, refl, sym, Bool, true, false, cond, List, [], ℕ, zero, suc, _<_, _≤_, ltb, length, drop, getD, drop-of-length-le, within?}
 use Rattle.runs.proofs.Laws.{Supply, goes, halts, stop, go, digit, took-x, follow}
 use lib.Seq.{drop-cons}
 use Rattle.states.proofs.Laws.{State, InputUsed, NoRoom, NotADigit, RangeLeft, loaded}

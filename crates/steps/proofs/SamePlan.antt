@@ -1,22 +1,16 @@
 -- "What is kept for the digits a system hasn't got .. no answer depends on it": where two settings have the same digits, a state that holds a digit of the input system,
 -- or none, has the same plan in both. A plan reads the held digit's interval and transformation, the intervals of the output digits and the transformation of the one
 -- that fits: all of these are digits of their systems.
-use Rattle.whole.proofs.Laws.{_≡_, refl, ap, _∙_, List, Option, none, some, ℕ, _≤_, arith, ltb-true, ltb, ℤ, first, first-same}
-use Rattle.plane.proofs.Laws.{multiplyOf, pseudoinverseOf, imageOf, cancelOf, within?}
-use Rattle.inclusion.proofs.Laws.{included?}
+use Rattle.whole.proofs.Laws.{_≡_, refl, ap, _∙_, List, Option, none, some, ℕ, _≤_, arith, ltb-true, ltb, ℤ, within?}
+use Rattle.plane.proofs.Laws.{multiplyOf, pseudoinverseOf, imageOf, cancelOf}
 use Rattle.digits.proofs.Laws.{SameDigits}
+use Rattle.fitting.proofs.Laws.{fittingOf, same-fitting}
 use Rattle.runs.proofs.Laws.{Supply, nothing, Going, Each, digit, took-x, gave, follow-each, each-test}
 use Rattle.states.proofs.Laws.{Held, Nothing, Digit, State, NoRoom, NotADigit, RangeLeft, loaded, given, absorbed, HeldDigit}
-use Rattle.steps.specs.Step.{Setting, ranged, loadPlan, fits?, fittingOf, chosen, givenMatrix, absorbedMatrix, heldPlan, planBy, plan, plain}
+use Rattle.steps.specs.Step.{Setting, ranged, loadPlan, chosen, givenMatrix, absorbedMatrix, heldPlan, planBy, plan, plain}
 use Rattle.steps.proofs.Kept.{chosen-below}
 
 module _ (y z : Setting) (same-in : SameDigits (y .input) (z .input)) (same-out : SameDigits (y .output) (z .output)) (few-in : y .input .count ≤ 16) (few-out : y .output .count ≤ 16) where
-  same-fitting : (image : List ℤ) → fittingOf (y .output) image ≡ fittingOf (z .output) image
-  unfolding fittingOf
-  same-fitting image =
-      first-same (fits? (y .output) image) (fits? (z .output) image) (y .output .count) 0 (λ b i k. ap (included? image) (same-out .intervals few-out b (omega arith))) ∙
-      ap (λ (n : ℕ). first (fits? (z .output) image) n 0) (same-out .count)
-
   same-held : (s : State) (h : ℕ) → HeldDigit (y .input .count) (Digit h) → (o : Option ℕ) → chosen y s h ≡ o → heldPlan y s h o ≡ heldPlan z s h o
   same-held s h k none e = ap (λ (f : List ℤ). ranged (absorbed s (cancelOf (multiplyOf (s .matrix) f)))) (same-in .transformations few-in h k)
   same-held s h k (some b) e =
@@ -26,7 +20,7 @@ module _ (y z : Setting) (same-in : SameDigits (y .input) (z .input)) (same-out 
   by-held s Nothing k = ap (λ (n : ℕ). loadPlan n s) (same-in .count)
   by-held s (Digit h) k =
       same-held s h k (chosen y s h) refl ∙
-      ap (heldPlan z s h) (ap (λ (w : List ℤ). fittingOf (y .output) (imageOf (s .matrix) w)) (same-in .intervals few-in h k) ∙ same-fitting _)
+      ap (heldPlan z s h) (ap (λ (w : List ℤ). fittingOf (y .output) (imageOf (s .matrix) w)) (same-in .intervals few-in h k) ∙ same-fitting same-out few-out _)
 
   pub same-plan : (s : State) → HeldDigit (y .input .count) (s .held) → plan y s ≡ plan z s
   same-plan s k = by-held s (s .held) k

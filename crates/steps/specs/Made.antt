@@ -2,7 +2,6 @@
 -- is asked of a plug-in.)
 use mathlib.Core.Path.{_≡_}
 use mathlib.Core.List.{List}
-use mathlib.Core.Option.{Option, none, some}
 use Prim.Native.Nat.{ℕ, _<_, _≤_}
 use lib.IntN.{ℤ, pos}
 use lib.Signed.{_<ℤ_}
@@ -16,7 +15,7 @@ use Rattle.runs.specs.Supply.{Supply, nothing}
 use Rattle.runs.specs.Machine.{Outcome, goes, halts}
 use Rattle.runs.specs.Plan.{Plan, took-x, gave, follow}
 use Rattle.states.specs.Types.{State, Stop}
-use Rattle.steps.specs.Types.{Kind, Load, Give, Absorb, Halt, Move, Fitting, At, Missing}
+use Rattle.steps.specs.Types.{Kind, Load, Give, Absorb, Halt, Move}
 use Rattle.states.specs.State.{StateRules}
 use Rattle.steps.specs.Step.{Setting}
 
@@ -46,11 +45,6 @@ StaysBy s (Halt e) t = t ≡ s
 pub record Follows (p : Plan State Stop) (s : State) (supply : Supply) (m : Move) : Type 0 where
   pub outcome : outcomeBy (m .kind) (m .state) ≡ follow p supply
   pub stays : StaysBy s (m .kind) (m .state)
-
--- what `Fitting` stands for
-abbrev pub fitting : Option ℕ → Fitting
-fitting none = Missing
-fitting (some b) = At b
 
 -- ---- what may be relied on
 

@@ -1,18 +1,17 @@
 -- "One step, first line that applies", with document 01's five lines in their order. "F, W are the input system's; G, U the output system's." The step is a plan: it
 -- asks for a byte or a place where its line does, stops where that is missing, and changes something only where it goes on. So "A stop leaves the state as it was before
 -- that step" is how it is read (crates/runs/specs/Plan.antt).
-use mathlib.Core.Bool.{Bool, cond}
+use mathlib.Core.Bool.{cond}
 use mathlib.Core.List.{List, []}
 use mathlib.Core.Option.{Option, none, some}
 use Prim.Native.Nat.{ℕ}
 use lib.Dec.{ltb}
 use lib.IntN.{ℤ}
-use Rattle.whole.specs.First.{first}
 use Rattle.plane.specs.Plane.{multiplyOf, pseudoinverseOf, imageOf, cancelOf}
-use Rattle.plane.specs.Tests.{within?}
-use Rattle.inclusion.specs.Inclusion.{included?}
+use Rattle.whole.specs.Range.{within?}
 use Rattle.digits.specs.Types.{System}
 use Rattle.digits.specs.System.{transformation, interval}
+use Rattle.fitting.specs.FirstFit.{fittingOf}
 use Rattle.runs.specs.Supply.{Supply}
 use Rattle.runs.specs.Machine.{Machine}
 use Rattle.runs.specs.Plan.{Plan, stop, go, byte-x, digit, planned}
@@ -37,14 +36,7 @@ ranged t = cond (within? 1000000000 (t .matrix)) (go t) (stop RangeLeft)
 abbrev pub loadPlan : ℕ → State → Plan State Stop
 loadPlan n s = byte-x InputUsed (λ b. cond (ltb b n) (go (loaded s b)) (stop NotADigit))
 
--- 4. "Some U_b includes X·W_held: let b be the smallest."
-abbrev pub fits? : System → List ℤ → ℕ → Bool
-fits? output image b = included? image (interval output b)
-
-unfoldable pub fittingOf : System → List ℤ → Option ℕ
-fittingOf output image = first (fits? output image) (output .count) 0
-
--- the choice among the digits that fit
+-- 4. "Some U_b includes X·W_held: let b be the smallest." (`fittingOf`: crates/fitting/specs)
 abbrev pub chosen : Setting → State → ℕ → Option ℕ
 chosen y s h = fittingOf (y .output) (imageOf (s .matrix) (interval (y .input) h))
 

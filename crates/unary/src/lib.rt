@@ -1,4 +1,4 @@
-// The unary algorithm: document 01's section "The step". `run` (opening: crates/opening; what is judged before any step: crates/judging; the steps: crates/steps).
+// The unary algorithm: document 01's section "The step". `run` (opening: crates/opening; what is judged before any step: crates/judging; one step: crates/one_step, over the lines of crates/steps).
 // Public: `run` with the type of its answer. The rest is what our other crates call.
 ghost use mathlib.Core.Path.{_≡_};
 ghost use Rattle.digits.specs.System.{lent, Stored};
@@ -40,8 +40,7 @@ fn run_judged(
     let mut i: usize = 0;
     let mut o: usize = 0;
     loop {
-        let free = output.len() - o;
-        let m = steps::step(
+        let m = one_step::step(
             input_count,
             input_rows,
             output_count,
@@ -49,7 +48,8 @@ fn run_judged(
             st,
             input,
             i,
-            free,
+            o,
+            output.len(),
         );
         let kind = m.kind;
         let t = m.state;

@@ -15,9 +15,9 @@ pub use Rattle.whole.proofs.Cases.{up≤, up<, down≤, down<, down≡,
 -- what a test says, and when it comes out so
 pub use Rattle.whole.proofs.Test.{lt-true, lt-false, le-true, le-false, true-lt, false-lt, true-le, false-le, both-true, true-both, false-by, true-by}
 -- magnitudes and ranges
-pub use Rattle.whole.proofs.Range.{natAbs-neg, natAbs-zero, near-le, near-neg, near-mul, near-add, near-sub, near-quot, within-le}
+pub use Rattle.whole.proofs.Range.{natAbs-neg, natAbs-zero, near-le, near-neg, near-mul, near-add, near-sub, near-quot, within-le, within-says, says-within}
 -- machine words: what fits is read back, casts, and what stands for a number
-pub use Rattle.whole.proofs.Machine.{back, near-back, ok-back, back-of, widen-fits, widen-back, narrow-fits, narrow-back, element-16, unsigned-ok}
+pub use Rattle.whole.proofs.Machine.{back, near-back, ok-back, back-of, held, Fits, size, widen-fits, widen-back, narrow-fits, narrow-back, element-16, unsigned-ok}
 pub use Rattle.whole.proofs.Machine.{Stands, stored, literal, unsigned, mul-ok, add-ok, sub-ok, mul-stands, add-stands, sub-stands}
 -- greatest common divisors
 pub use Rattle.whole.proofs.Divisor.{gcd-divides-left, gcd-divides-right, gcd-greatest, quot-exact, gcd4-divides, gcd4-greatest, gcd4-zero, gcd4-times}
@@ -37,9 +37,10 @@ pub use Rattle.whole.proofs.Base.{natAbs, ne-eqb, needs, negsuc, negℤ
 pub use Rattle.whole.proofs.Base.{subst, subst₂, suc, sym, take, take-add, take-all, take-append-drop, take-append-seam, take-at, take-suc, true, true≢false, zero}
 pub use Rattle.whole.proofs.Base.{zero-*ℤ, zero-le, ℕ, ℕ-discrete, ℤ}
 -- the definitions
-pub use Rattle.whole.specs.Divisor.{Divides4, Exact, divided}
+pub use Rattle.whole.specs.Divisor.{Divides4, Exact, divided, lowest?}
 unfoldable pub use Rattle.whole.specs.Divisor.{gcd, gcd4, gcdBy}
 pub use Rattle.whole.specs.First.{found?}
 unfoldable pub use Rattle.whole.specs.First.{first}
 pub use Rattle.whole.specs.Range.{Near, Within, at}
+unfoldable pub use Rattle.whole.specs.Range.{within?}
 unfoldable pub use Rattle.whole.specs.Refusal.{unlessRefused}

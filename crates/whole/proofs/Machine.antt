@@ -6,10 +6,11 @@
 -- within 1000, p = mul-stands (stored h1 tt) (stored h2 tt) tt and q likewise stand for the products, and `sub-ok p q tt` is what the difference asks. Each `tt` is a
 -- test on bounds, that they are below 2^63.
 -- Private: `mag-le`.
-use Rattle.whole.proofs.Base.{_≡_, refl, sym, ap₂, subst, subst₂, _∙_, ℕ, _+_, _*_, _<_, _≤_, _^_, lt-of-le-of-lt, le-refl, arith, T, ltb, ltb→lt, ℤ, pos, negsuc, natAbs, _+ℤ_, _-ℤ_, _*ℤ_, mag, _≤ℤ_}
+use Rattle.whole.proofs.Base.{_≡_, refl, sym, ap, ap₂, subst, subst₂, _∙_, ℕ, _+_, _*_, _<_, _≤_, _^_, lt-of-le-of-lt, le-refl, arith, T, ltb, ltb→lt, ℤ, pos, negsuc, natAbs, _+ℤ_, _-ℤ_, _*ℤ_, mag, _≤ℤ_}
 use lib.Signed.{nonNeg, yes-nonNeg}
 use mir.Syntax.{Width, w16, w64}
-use mir.Val.{Fits, SFits, ofZ, toZ}
+use mir.Val as word
+use mir.Val.{SFits, ofZ, toZ}
 use mir.Facts.{toZ-ofZ, toZ-pos, sfits-widen, fits-natAbs}
 use Rattle.whole.specs.Range.{Near}
 use Rattle.whole.proofs.Range.{near-mul, near-add, near-sub}
@@ -35,6 +36,18 @@ ok-back h = toZ-ofZ (record { sfits = h })
 
 pub back-of : (z : ℤ) → mag z < 2 ^ 63 → toZ w64 (ofZ w64 z) ≡ z
 back-of z h = ok-back h
+
+-- what is read back where z was stored
+abbrev pub held : ℤ → ℤ
+held z = toZ w64 (ofZ w64 z)
+
+-- z fits a word, as the check tells it of an element that was read from an array and of a call's result
+abbrev pub Fits : ℤ → Type 0
+Fits z = mag z < 2 ^ 63
+
+-- what `magnitude` ensures of the word that holds z
+pub size : (z : ℤ) {n : ℕ} → Fits z → n ≡ natAbs (held z) → n ≡ natAbs z
+size z fits e = e ∙ ap natAbs (back-of z fits)
 
 -- ---- casts
 
@@ -64,7 +77,7 @@ pub element-16 : (z : ℤ) → mag z < 2 ^ 15 → SFits w16 z
 element-16 z h = record { sfits = h }
 
 -- i64 to u64: of a number that is not negative. The cast's result is `natAbs` of what is read
-pub unsigned-ok : {z : ℤ} → SFits w64 z → pos 0 ≤ℤ z → T (nonNeg (toZ w64 (ofZ w64 z))) × Fits w64 (natAbs (toZ w64 (ofZ w64 z)))
+pub unsigned-ok : {z : ℤ} → SFits w64 z → pos 0 ≤ℤ z → T (nonNeg (toZ w64 (ofZ w64 z))) × word.Fits w64 (natAbs (toZ w64 (ofZ w64 z)))
 unsigned-ok {z} f p = rw (toZ-ofZ f) (yes-nonNeg p, fits-natAbs tt f)
 
 -- ---- what the machine holds in place of a number: u stands for z, which lies within b of 0.

@@ -3,9 +3,12 @@
 -- `Near b z` (specs/Range.antt) is −b ≤ z ≤ b. Ranges add and multiply as the numbers do: from h : Near 100 x and k : Near 1000 y,
 -- `near-add (near-mul h k) h : Near (100 * 1000 + 100) (x *ℤ y +ℤ x)`, and `near-le .. tt` for a wider range: the `tt` is the test that the one bound is at most the
 -- other.
--- Private: `difference`.
-use Rattle.whole.proofs.Base.{_≡_, refl, ap, Bool, true, false, cond, List, ℕ, zero, suc, _+_, _-_, _*_, _/_, _≤_, le-refl, le-trans, mul-le-mul, div-le-self, arith, T, ltb, leb, leb→le, ltb-true, ℤ, pos, negsuc, negℤ, natAbs, _+ℤ_, _-ℤ_, _*ℤ_, quotZ}
-use Rattle.whole.specs.Range.{Near, Within}
+-- `within-says` and `says-within`: what the test of a range says.
+-- Private: `difference`, `near-says`, `says-near`.
+use Rattle.whole.proofs.Base.{_≡_, refl, ap, Bool, true, false, _&&_, cond, List, ℕ, zero, suc, _+_, _-_, _*_, _/_, _≤_, le-refl, le-trans, mul-le-mul, div-le-self, arith, T, ltb, leb, leb→le, le-leb, ltb-true, ℤ, pos, negsuc, negℤ, natAbs, _+ℤ_, _-ℤ_, _*ℤ_, quotZ}
+use borrow.Author.Tests.{leb-true}
+use Rattle.whole.specs.Range.{at, Near, Within, within?}
+use Rattle.whole.proofs.Test.{both-true, true-both}
 
 -- ---- magnitudes
 
@@ -61,3 +64,23 @@ near-quot {x = x} h g = record { near = omega (arith, natAbs-quot x g, div-le-se
 
 pub within-le : {a b : ℕ} {m : List ℤ} → Within a m → T (leb a b) → Within b m
 within-le w t = record { n0 = near-le (w .n0) t; n1 = near-le (w .n1) t; n2 = near-le (w .n2) t; n3 = near-le (w .n3) t }
+
+-- ---- the test on a range says so
+
+near-says : (b : ℕ) (z : ℤ) → leb (natAbs z) b ≡ true → Near b z
+near-says b z e = record { near = leb-true (natAbs z) b e }
+
+says-near : {b : ℕ} {z : ℤ} → Near b z → leb (natAbs z) b ≡ true
+says-near {b} {z} h = le-leb (natAbs z) b (h .near)
+
+pub within-says : (b : ℕ) (m : List ℤ) → within? b m ≡ true → Within b m
+unfolding within?
+within-says b m e =
+    let p = both-true (leb (natAbs (at m 0)) b && leb (natAbs (at m 1)) b && leb (natAbs (at m 2)) b) (leb (natAbs (at m 3)) b) e in
+    let q = both-true (leb (natAbs (at m 0)) b && leb (natAbs (at m 1)) b) (leb (natAbs (at m 2)) b) (p .0) in
+    let r = both-true (leb (natAbs (at m 0)) b) (leb (natAbs (at m 1)) b) (q .0) in
+    record { n0 = near-says b (at m 0) (r .0); n1 = near-says b (at m 1) (r .1); n2 = near-says b (at m 2) (q .1); n3 = near-says b (at m 3) (p .1) }
+
+pub says-within : {b : ℕ} {m : List ℤ} → Within b m → within? b m ≡ true
+unfolding within?
+says-within h = true-both (true-both (true-both (says-near (h .n0)) (says-near (h .n1))) (says-near (h .n2))) (says-near (h .n3))

@@ -4,8 +4,10 @@
 -- gcd 12 18 goes 12 18, 18 12, 12 6, 6 0, and is 6; `gcd4` of [4, −6, 0, 10] is 2, and `divided` of it by 2 is [2, −3, 0, 5]. proofs/Divisor.antt proves that this is the
 -- greatest common divisor in the usual sense. `gcdBy` is only the way `gcd` is defined: cite `gcd`. The definitions are `unfoldable`, so that a proof sees a name until
 -- it asks for more.
+use mathlib.Core.Bool.{Bool}
 use mathlib.Core.List.{List, [], _∷_}
 use Prim.Native.Nat.{ℕ, zero, suc, _%_, _<_, _∣_}
+use lib.Dec.{eqb}
 use lib.IntN.{ℤ, pos, natAbs}
 use lib.Signed.{quotZ}
 use Rattle.whole.specs.Range.{at}
@@ -22,6 +24,10 @@ gcd a b = gcdBy b a b
 -- the greatest common divisor of four whole numbers, signs apart
 unfoldable pub gcd4 : List ℤ → ℕ
 gcd4 m = gcd (gcd (natAbs (at m 0)) (natAbs (at m 1))) (gcd (natAbs (at m 2)) (natAbs (at m 3)))
+
+-- it is 1
+abbrev pub lowest? : List ℤ → Bool
+lowest? m = eqb (gcd4 m) 1
 
 -- the four numbers divided by g, toward 0: signs stay
 abbrev pub divided : List ℤ → ℕ → List ℤ

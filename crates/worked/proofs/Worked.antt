@@ -1,12 +1,12 @@
 -- Every row of the table of worked examples holds. The checker runs the test of each row, once, over the whole table (`computed`); one law turns a table that passes
 -- into what its rows say (`passed`).
-use Rattle.whole.proofs.Laws.{_≡_, refl, sym, subst, Bool, true, _&&_, List, [], _∷_, gcdBy, gcd, gcd4, first, both-true, unlessRefused}
-use Rattle.plane.proofs.Laws.{apply, determinantOf, pseudoinverseOf, multiplyOf, imageOf, cancelOf, within?}
+use Rattle.whole.proofs.Laws.{_≡_, refl, sym, subst, Bool, true, _&&_, List, [], _∷_, gcdBy, gcd, gcd4, first, both-true, unlessRefused, within?}
+use Rattle.plane.proofs.Laws.{apply, determinantOf, pseudoinverseOf, multiplyOf, imageOf, cancelOf}
 use Rattle.inclusion.proofs.Laws.{closed?, same?, included?}
 use Rattle.digits.proofs.Laws.{fourAt, transformationAt, intervalAt, systemOf}
 use Rattle.admission.proofs.Laws.{rowVerdict, rowsVerdict, admissionOf}
 use Rattle.runs.proofs.Laws.{follow, runBy, run, judgedRun}
-use Rattle.steps.proofs.Laws.{fittingOf}
+use Rattle.fitting.proofs.Laws.{fittingOf}
 use Rattle.judging.proofs.Laws.{state?, refusalOf}
 use Rattle.unary.proofs.Laws.{courseOf, runOf}
 use Rattle.opening.proofs.Laws.{openOf}

@@ -3,8 +3,7 @@ use Rattle.whole.proofs.Laws.{needs, _≡_, sym, ap, ap₂, _∙_, Bool, not, c
 use Rattle.digits.proofs.Laws.{System, lent, DigitThere, stored-there}
 use Rattle.admission.specs.Types.{Admitted, Uncovered}
 use Rattle.admission.specs.Admission.{refusalNumber, refused?, rowVerdict, verdictOfRow, firstVerdict, rowsVerdict}
-use Rattle.admission.proofs.CoverSays.{small}
-use Rattle.admission.proofs.AdmittedSays.{digit-says}
+use Rattle.admission.proofs.AdmittedSays.{digit-says, small}
 use Rattle.admission.proofs.rows_verdict.Statement.{statement}
 use Rattle.admission.proofs.rows_verdict.Tie as tie
 

@@ -1,6 +1,6 @@
 -- `cancelling::quotients` meets its contract: each of the four is what `quotient` ensures of an entry, which is read back as it is.
-use Rattle.whole.proofs.Laws.{needs, _≡_, _∙_, ap, ℕ, _<_, _∣_, ℤ, pos, natAbs, quotZ, at, Exact, ok-back, back-of}
-use Rattle.plane.proofs.Laws.{held, Fits, four-equal}
+use Rattle.whole.proofs.Laws.{needs, _≡_, _∙_, ap, ℕ, _<_, _∣_, ℤ, pos, natAbs, quotZ, at, Exact, ok-back, back-of, held, Fits}
+use Rattle.plane.proofs.Laws.{four-equal}
 use Rattle.cancelling.proofs.quotients.Statement.{statement}
 use Rattle.cancelling.proofs.quotients.Tie as tie
 

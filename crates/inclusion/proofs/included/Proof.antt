@@ -1,6 +1,5 @@
 -- `inclusion::included` meets its contract: document 01's test is one on the signs of four determinants (proofs/Signs.antt), and the words that hold them tell these signs.
-use Rattle.whole.proofs.Laws.{needs, not-true, not-false, ne-eqb, _≡_, refl, sym, _∙_, ap, subst, Bool, true, false, not, _&&_, _||_, inl, inr, ℕ, T, eqb, eqb→eq, ℤ, pos, natAbs, _*ℤ_, leZ, at, natAbs-zero, back, near-back, back-of}
-use Rattle.plane.proofs.Laws.{held, Fits}
+use Rattle.whole.proofs.Laws.{needs, not-true, not-false, ne-eqb, _≡_, refl, sym, _∙_, ap, subst, Bool, true, false, not, _&&_, _||_, inl, inr, ℕ, T, eqb, eqb→eq, ℤ, pos, natAbs, _*ℤ_, leZ, at, natAbs-zero, back, near-back, back-of, held, Fits}
 use mir.Syntax.{w64}
 use mir.Val.{ofZ, toZ}
 use Rattle.inclusion.specs.Inclusion.{included?, sidesOf}

@@ -1,6 +1,6 @@
 -- `judging::state_kept` meets its contract: the tests of `state?` in their order, and what a later one needs has passed those before.
-use Rattle.whole.proofs.Laws.{needs, not-true, not-false, eq-eqb, ne-eqb, _≡_, sym, _∙_, true}
-use Rattle.plane.proofs.Laws.{within?, above, within-products, within-says}
+use Rattle.whole.proofs.Laws.{needs, not-true, not-false, eq-eqb, ne-eqb, _≡_, sym, _∙_, true, within?, within-says}
+use Rattle.plane.proofs.Laws.{above, within-products}
 use Rattle.judging.specs.Refusal.{state?}
 use Rattle.judging.proofs.state_kept.Statement.{statement}
 use Rattle.judging.proofs.state_kept.Tie as tie

@@ -1,6 +1,6 @@
 -- `opening::opening_of` meets its contract: "Opening: 6, then 11."
-use Rattle.whole.proofs.Laws.{needs, not-true, not-false, _≡_, sym, _∙_, true}
-use Rattle.plane.proofs.Laws.{within?, above, within-products, within-says}
+use Rattle.whole.proofs.Laws.{needs, not-true, not-false, _≡_, sym, _∙_, true, within?, within-says}
+use Rattle.plane.proofs.Laws.{above, within-products}
 use Rattle.opening.proofs.opening_of.Statement.{statement}
 use Rattle.opening.proofs.opening_of.Tie as tie
 

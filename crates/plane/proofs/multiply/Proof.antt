@@ -1,7 +1,6 @@
 -- `plane::multiply` meets its contract: each entry is what `dot` ensures of four entries, which are read back as they are.
-use Rattle.whole.proofs.Laws.{needs, _≡_, _∙_, ℤ, _+ℤ_, _*ℤ_, Near, back, near-back, ok-back}
+use Rattle.whole.proofs.Laws.{needs, _≡_, _∙_, ℤ, _+ℤ_, _*ℤ_, Near, back, near-back, ok-back, held, Fits}
 use Rattle.plane.specs.Plane.{multiplyOf}
-use Rattle.plane.proofs.MachineNumbers.{held, Fits}
 use Rattle.plane.proofs.Identities.{four-equal}
 use Rattle.plane.proofs.multiply.Statement.{statement}
 use Rattle.plane.proofs.multiply.Tie as tie

@@ -1,7 +1,6 @@
 -- `plane::pseudoinverse` meets its contract: a negation is worked out as 0 less the number, and fits.
-use Rattle.whole.proofs.Laws.{needs, _≡_, _∙_, ℤ, pos, negℤ, _-ℤ_, +ℤ-idl, Near, literal, stored, back, sub-ok, sub-stands}
+use Rattle.whole.proofs.Laws.{needs, _≡_, _∙_, ℤ, pos, negℤ, _-ℤ_, +ℤ-idl, Near, literal, stored, back, sub-ok, sub-stands, held}
 use Rattle.plane.specs.Plane.{pseudoinverseOf}
-use Rattle.plane.proofs.MachineNumbers.{held}
 use Rattle.plane.proofs.Identities.{four-equal}
 use Rattle.plane.proofs.pseudoinverse.Statement.{statement}
 use Rattle.plane.proofs.pseudoinverse.Tie as tie

@@ -1,5 +1,5 @@
 -- `steps::give` meets its contract: line 4 of a step, for the digit that fits.
-use Rattle.whole.proofs.Laws.{needs, _≡_, sym, ap, subst, _∙_, List, ℤ, now, Within, within-le}
+use Rattle.whole.proofs.Laws.{needs, _≡_, sym, ap, subst, _∙_, List, _-_, arith, ℤ, now, Within, within-le}
 use Rattle.plane.proofs.Laws.{cancelOf, multiplyOf, pseudoinverseOf}
 use Rattle.digits.proofs.Laws.{transformationAt}
 use Rattle.steps.specs.Types.{Give}
@@ -11,7 +11,7 @@ use Rattle.steps.proofs.give.Statement.{statement}
 use Rattle.steps.proofs.give.Tie as tie
 
 returns : tie.Need-returns
-returns c = λ bytes. no-room (c .before .args .s) _ _ _ bytes (c .if1 .taken)
+returns c = λ bytes. no-room (c .before .args .s) _ _ _ bytes (omega arith)
 
 pseudoinverse-requires : tie.Need-pseudoinverse-requires
 pseudoinverse-requires c κs = subst (Within 1000000000) (sym (c .transformation .ensures)) (within-le (c .before .before .before .pre .digit .in-range .numbers-f) tt)
@@ -29,7 +29,7 @@ returns-2 c =
     let a = p .before .before .before .before .args in
     let x = c .before .before .product .ensures ∙ ap (λ (m : List ℤ). cancelOf (multiplyOf m (a .s .matrix))) (turned p) in
     let t = c .before .given .ensures ∙ ap (given (a .s)) x in
-    λ bytes. rw (c .in-range .ensures ∙ ap (rangedMove (a .s) (Give (a .b))) t) (gives (a .s) _ (a .b) (a .free) bytes (p .before .before .before .if1 .left))
+    λ bytes. rw (c .in-range .ensures ∙ ap (rangedMove (a .s) (Give (a .b))) t) (gives (a .s) _ (a .b) (a .room - a .o) bytes (λ e. omega arith))
 
 pub give-spec : {M : Type 1} → statement M
 give-spec = tie.close (tie.spec returns (λ c κs. search needs) pseudoinverse-requires product-requires (λ c κs. search needs) (λ c κs. search needs) returns-2)

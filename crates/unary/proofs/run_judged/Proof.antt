@@ -23,10 +23,6 @@ loop-holds c =
     let a = c .before .before .args in
     (c .before .before .pre, here-first (plain (both (a .input-count) (now (a .input-rows)) (a .output-count) (now (a .output-rows)))) (a .s) (lentTo (now (a .input)) (now (a .output))))
 
--- the places filled are places of the output
-sub-free : tie.Need-sub-free Inv-loop μ-loop
-sub-free c = omega (arith, c .loop .inv .1 .room, c .loop .inv .1 .out-length)
-
 -- ---- a turn of the loop, behind its step
 
 abbrev start : tie.After-step Inv-loop μ-loop → tie.Start Inv-loop μ-loop
@@ -86,5 +82,5 @@ loop-again-3 c = let S = c .before .before .before in (kept S, law S .absorb (c 
 
 pub run-judged-spec : {M : Type 1} → statement M
 run-judged-spec = tie.close (tie.spec
-    Inv-loop μ-loop loop-holds sub-free (λ c κs. c .loop .inv .0) (λ c. search needs) same-length returns enum-told add-i loop-less loop-again (λ c. search needs)
+    Inv-loop μ-loop loop-holds (λ c κs. c .loop .inv .0) (λ c. search needs) same-length returns enum-told add-i loop-less loop-again (λ c. search needs)
     slice-write-output add-o loop-less-2 loop-again-2 (λ c. search needs) loop-less-3 loop-again-3)

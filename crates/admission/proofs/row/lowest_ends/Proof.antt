@@ -1,6 +1,5 @@
 -- `admission::row::lowest_ends` meets its contract: what is handed of each end's two words is the greatest common divisor of its two numbers.
-use Rattle.whole.proofs.Laws.{needs, eq-eqb, ne-eqb, _≡_, sym, _∙_, ap, ℕ, eqb, ℤ, natAbs, at, gcd, back-of}
-use Rattle.plane.proofs.Laws.{held, Fits}
+use Rattle.whole.proofs.Laws.{needs, eq-eqb, ne-eqb, _≡_, sym, _∙_, ap, ℕ, eqb, ℤ, natAbs, at, gcd, back-of, held, Fits}
 use Rattle.admission.proofs.row.lowest_ends.Statement.{statement}
 use Rattle.admission.proofs.row.lowest_ends.Tie as tie
 

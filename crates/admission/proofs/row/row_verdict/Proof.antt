@@ -1,6 +1,6 @@
 -- `admission::row::row_verdict` meets its contract: the code asks the tests of `rowVerdict` in their order, and what it hands on has passed those before.
-use Rattle.whole.proofs.Laws.{needs, not-true, not-false, eq-eqb, ne-eqb, _≡_, sym, _∙_, true, not, cond, _&&_, pos, leZ, true-both}
-use Rattle.plane.proofs.Laws.{held, above, below, within-products, within-says, within?, lowest?}
+use Rattle.whole.proofs.Laws.{needs, not-true, not-false, eq-eqb, ne-eqb, _≡_, sym, _∙_, true, not, cond, _&&_, pos, leZ, true-both, within-says, within?, lowest?, held}
+use Rattle.plane.proofs.Laws.{above, below, within-products}
 use Rattle.admission.specs.Admission.{lowestEnds?, rowVerdict}
 use Rattle.admission.specs.Types.{Admitted, NotBelow, NotLowest}
 use Rattle.admission.proofs.row.row_verdict.Statement.{statement}

@@ -1,0 +1,56 @@
+// One step of the unary algorithm: which of document 01's five lines applies. What each does is in the crate `steps`. For the crate `unary`; nothing here is for plug-ins.
+ghost use mathlib.Core.List.{List};
+ghost use Prim.Native.Nat.{ℕ, _-_};
+ghost use lib.ListN.{drop};
+ghost use Rattle.digits.specs.System.{lent};
+ghost use Rattle.steps.specs.Step.{setting, oneWord, emitPlan, plan};
+ghost use Rattle.steps.specs.Made.{Follows, WorksWith, Usable, Ready};
+use fitting::Fitting;
+use states::Held;
+use states::State;
+use steps::Move;
+
+// Lines 4 and 5: the digit h is held. The input system's count does not matter here.
+fn emit(
+    input_rows: &[i16],
+    output_count: usize,
+    output_rows: &[i16],
+    s: State,
+    h: u8,
+    o: usize,
+    room: usize,
+) -> Move
+    requires { ⌜ (WorksWith (now «input_rows») s h) × (Usable (lent «output_count» (now «output_rows»))) ⌝ }
+    ensures { λ r. ⌜ ((bytes : List ℕ) → Follows (emitPlan (setting (lent 0 (now («input_rows» .entry))) (lent «output_count» (now («output_rows» .entry)))) s h) s (oneWord bytes (room - o)) r) ⌝ }
+{
+    let w = digits::interval(input_rows, h as usize);
+    let x = s.matrix;
+    let image = plane::image(x, w);
+    match fitting::fitting_digit(output_count, output_rows, image) {
+        Fitting::At(b) => steps::give(output_rows, s, b, o, room),
+        Fitting::Missing => steps::absorb(input_rows, s, h),
+    }
+}
+
+// One step, first line that applies, behind i bytes taken and o digits written, where the output has room for so many in all. The next byte is read only where nothing
+// is held. (What is free is not handed over: the loop would keep it beside o.)
+pub fn step(
+    input_count: usize,
+    input_rows: &[i16],
+    output_count: usize,
+    output_rows: &[i16],
+    s: State,
+    input: &[u8],
+    i: usize,
+    o: usize,
+    room: usize,
+) -> Move
+    requires { ⌜ Ready (setting (lent «input_count» (now «input_rows»)) (lent «output_count» (now «output_rows»))) s ⌝ }
+    ensures { λ r. ⌜ Follows (plan (setting (lent «input_count» (now («input_rows» .entry))) (lent «output_count» (now («output_rows» .entry)))) s) s (oneWord (drop i (now (input .entry))) (room - o)) r ⌝ }
+{
+    let held = s.held;
+    match held {
+        Held::Nothing => steps::load(input_count, s, input, i),
+        Held::Digit(h) => emit(input_rows, output_count, output_rows, s, h, o, room),
+    }
+}

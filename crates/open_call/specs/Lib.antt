@@ -1,0 +1,2 @@
+-- Opening over lent numbers.
+pub mod OpenCall

@@ -1,0 +1,1 @@
+-- The folders prove the functions of src/lib.rt, each by its name. What the test of a range says is in crates/whole (proofs/Range.antt).
