@@ -25,7 +25,7 @@ fn emit(
 {
     let w = digits::interval(input_rows, h as usize);
     let x = s.matrix;
-    let image = plane::image(x, w);
+    let image = products::image(x, w);
     match fitting::fitting_digit(output_count, output_rows, image) {
         Fitting::At(b) => steps::give(output_rows, s, b, o, room),
         Fitting::Missing => steps::absorb(input_rows, s, h),

@@ -70,7 +70,7 @@ fn product(m: [i64; 4], n: [i64; 4]) -> [i64; 4]
     requires { ⌜ Factors m n ⌝ }
     ensures { λ r. ⌜ r ≡ cancelOf (multiplyOf m n) ⌝ }
 {
-    cancelling::cancel(plane::multiply(m, n))
+    cancelling::cancel(products::multiply(m, n))
 }
 
 // Line 4, its second half: the digit b is given out, if a place is free behind the o that are filled.

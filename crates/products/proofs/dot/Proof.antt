@@ -1,7 +1,7 @@
--- `plane::dot` meets its contract: the ranges keep each product and their sum within a word.
+-- `products::dot` meets its contract: the ranges keep each product and their sum within a word.
 use Rattle.whole.proofs.Laws.{stored, mul-ok, mul-stands, add-ok, add-stands}
-use Rattle.plane.proofs.dot.Statement.{statement}
-use Rattle.plane.proofs.dot.Tie as tie
+use Rattle.products.proofs.dot.Statement.{statement}
+use Rattle.products.proofs.dot.Tie as tie
 
 pub dot-spec : {M : Type 1} → statement M
 dot-spec = tie.close (tie.spec

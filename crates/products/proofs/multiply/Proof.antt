@@ -1,9 +1,8 @@
--- `plane::multiply` meets its contract: each entry is what `dot` ensures of four entries, which are read back as they are.
+-- `products::multiply` meets its contract: each entry is what `dot` ensures of four entries, which are read back as they are.
 use Rattle.whole.proofs.Laws.{needs, _≡_, _∙_, ℤ, _+ℤ_, _*ℤ_, Near, back, near-back, ok-back, held, Fits}
-use Rattle.plane.specs.Plane.{multiplyOf}
-use Rattle.plane.proofs.Identities.{four-equal}
-use Rattle.plane.proofs.multiply.Statement.{statement}
-use Rattle.plane.proofs.multiply.Tie as tie
+use Rattle.plane.proofs.Laws.{multiplyOf, four-equal}
+use Rattle.products.proofs.multiply.Statement.{statement}
+use Rattle.products.proofs.multiply.Tie as tie
 
 module _ {a b x y : ℤ} (ha : Near 1000000000 a) (hb : Near 1000000000 b) (hx : Near 1000000000 x) (hy : Near 1000000000 y) where
   asked : (Near 1000000000 (held a)) × (Near 1000000000 (held b)) × (Near 1000000000 (held x)) × (Near 1000000000 (held y))

@@ -1,9 +1,8 @@
--- `plane::image` meets its contract: the product's columns are the images of the ends, and written as rows they are X·W.
+-- `products::image` meets its contract: the product's columns are the images of the ends, and written as rows they are X·W.
 use Rattle.whole.proofs.Laws.{needs, _≡_, _∙_, ap, List, [], _∷_, ℤ, at, within-le, back, near-back, ok-back}
-use Rattle.plane.specs.Plane.{multiplyOf, apply, imageOf}
-use Rattle.plane.proofs.Identities.{four-equal}
-use Rattle.plane.proofs.image.Statement.{statement}
-use Rattle.plane.proofs.image.Tie as tie
+use Rattle.plane.proofs.Laws.{multiplyOf, apply, imageOf, four-equal}
+use Rattle.products.proofs.image.Statement.{statement}
+use Rattle.products.proofs.image.Tie as tie
 
 multiply-requires : tie.Need-multiply-requires
 multiply-requires c κs =

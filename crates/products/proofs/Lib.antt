@@ -1,0 +1,1 @@
+-- The folders prove the functions of src/lib.rt, each by its name. What holds of products and images is in crates/plane.
