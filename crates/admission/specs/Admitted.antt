@@ -1,5 +1,6 @@
--- Document 01's sentences on an admitted system, as they stand, and not how they are tested: "Admitted if every number lies in −100..100, det F > 0, det W < 0, the four
--- numbers of F have greatest common divisor 1, so have the two numbers of each end, and every point lies in the closed interval of some digit."
+-- Document 01's sentences on an admitted system, as they stand, and not how they are tested: "Admitted if every number lies in −100..100, det F > 0, det
+-- W < 0, the four numbers of F have greatest common divisor 1, so have the two numbers of each end, and every point lies in the closed interval of some
+-- digit."
 use mathlib.Core.Path.{_≡_}
 use mathlib.Core.List.{List}
 use mathlib.Core.Logic.{_⊎_}

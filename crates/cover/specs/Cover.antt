@@ -1,5 +1,5 @@
--- "every point lies in the closed interval of some digit", as it stands, and the test that refusal 10 makes. The theorem `cover-says` (proofs/CoverSays.antt) proves that
--- the test says exactly this.
+-- "every point lies in the closed interval of some digit", as it stands, and the test that refusal 10 makes. The theorem `cover-says`
+-- (proofs/CoverSays.antt) proves that the test says exactly this.
 use mathlib.Core.Bool.{Bool, not, _&&_}
 use mathlib.Core.List.{List}
 use Prim.Native.Nat.{ℕ, _<_}

@@ -1,5 +1,6 @@
--- A digit system: "Digit a has a transformation F and an interval W, written as one row of eight numbers: F as a b c d, then W as x0 x1 y0 y1."
--- The rows stand one behind the other in one list of 16 x 8 numbers. Only this crate knows where a number stands in memory: all others ask for a digit's `transformation` and `interval`. (In a job file, and in what a plug-in lends, rows stand one behind the other, by a layout of their own.)
+-- A digit system: "Digit a has a transformation F and an interval W, written as one row of eight numbers: F as a b c d, then W as x0 x1 y0 y1." The rows
+-- stand one behind the other in one list of 16 x 8 numbers. Only this crate knows where a number stands in memory: all others ask for a digit's
+-- `transformation` and `interval`. (In a job file, and in what a plug-in lends, rows stand one behind the other, by a layout of their own.)
 use mathlib.Core.Path.{_≡_}
 use mathlib.Core.List.{List, [], _∷_}
 use Prim.Native.Nat.{ℕ, _+_, _*_, _≤_, _<_}

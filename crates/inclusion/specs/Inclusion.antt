@@ -1,4 +1,5 @@
--- Document 01 on inclusion: the sentence that says what it is, and the test that decides it. The theorem `included-says` (proofs/Inclusion.antt) proves that they agree.
+-- Document 01 on inclusion: the sentence that says what it is, and the test that decides it. The theorem `included-says` (proofs/Inclusion.antt) proves
+-- that they agree.
 use mathlib.Core.Bool.{Bool, not, _&&_, _||_}
 use mathlib.Core.List.{List, [], _∷_}
 use lib.Dec.{eqb}
@@ -18,8 +19,8 @@ closed? w z = leZ (pos 0) (det (left w) z *ℤ det z (right w))
 unfoldable pub same? : Pair → Pair → Bool
 same? x y = eqb (natAbs (det x y)) 0
 
--- "For whole-number ends this is: both ends of I are in closed J, and either I and J have one and the same left end and one and the same right end, as points, or some
--- end of J is not in closed I."
+-- "For whole-number ends this is: both ends of I are in closed J, and either I and J have one and the same left end and one and the same right end, as
+-- points, or some end of J is not in closed I."
 unfoldable pub included? : List ℤ → List ℤ → Bool
 included? i j =
     closed? j (left i) && closed? j (right i) &&

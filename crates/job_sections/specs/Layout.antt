@@ -1,6 +1,6 @@
--- Document 01, "Job file", in its own words and order: the bytes of a job. "Four sections in fixed order, each after its count (2 bytes, low byte first): input system
--- (count of digits, rows of eight signed 16-bit numbers, low byte first, two's complement); output system, the same; matrix (count 4, then a b c d as such numbers); word
--- (count 0..4096, one byte a digit). Nothing follows."
+-- Document 01, "Job file", in its own words and order: the bytes of a job. "Four sections in fixed order, each after its count (2 bytes, low byte
+-- first): input system (count of digits, rows of eight signed 16-bit numbers, low byte first, two's complement); output system, the same; matrix (count
+-- 4, then a b c d as such numbers); word (count 0..4096, one byte a digit). Nothing follows."
 use mathlib.Core.Path.{_≡_}
 use mathlib.Core.List.{List, [], _∷_, _++_}
 use Prim.Native.Nat.{ℕ, _*_, _-_, _≤_}

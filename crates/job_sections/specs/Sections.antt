@@ -1,5 +1,6 @@
--- The three kinds of section. "Files are judged in file order: a section's count present (1), count right (3, 4, 5), section present (1), then contents. System: row by row 6,
--- 7, 8, 9; then 10. Matrix: 6, then 11." Each kind says which bytes a value has, when a number is given of a value, in document 01's words, and how both are computed.
+-- The three kinds of section. "Files are judged in file order: a section's count present (1), count right (3, 4, 5), section present (1), then contents.
+-- System: row by row 6, 7, 8, 9; then 10. Matrix: 6, then 11." Each kind says which bytes a value has, when a number is given of a value, in document
+-- 01's words, and how both are computed.
 use mathlib.Core.Path.{_≡_}
 use mathlib.Core.Bool.{cond}
 use mathlib.Core.List.{List, [], _∷_}

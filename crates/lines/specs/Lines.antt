@@ -1,6 +1,6 @@
--- Document 01, "The program": what is printed. "It reads a job on standard input, gives room for 8,192 digits and prints three lines: end number, digits taken, digits
--- written; the four entries and the held digit or `-`; the output digits. Fields are parted by one blank; with no digits the third line is empty. A refused file prints one
--- line: `refused`, number, section."
+-- Document 01, "The program": what is printed. "It reads a job on standard input, gives room for 8,192 digits and prints three lines: end number, digits
+-- taken, digits written; the four entries and the held digit or `-`; the output digits. Fields are parted by one blank; with no digits the third line is
+-- empty. A refused file prints one line: `refused`, number, section."
 use mathlib.Core.List.{List, [], _∷_, _++_, map}
 use Prim.Native.Nat.{ℕ}
 use lib.ListN.{take}

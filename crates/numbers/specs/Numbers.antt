@@ -23,8 +23,8 @@ wrongLength = 40
 abbrev pub rows? : List ℤ → Bool
 rows? l = eqb (length l % 8) 0
 
--- the system that they stand for: as many digits as there are rows, and 0 for the digits that it hasn't got. More than 16 digits are refused by their count, and no
--- row of them is kept.
+-- the system that they stand for: as many digits as there are rows, and 0 for the digits that it hasn't got. More than 16 digits are refused by their
+-- count, and no row of them is kept.
 unfoldable pub systemFrom : List ℤ → System
 systemFrom l = record { count = length l / 8; rows = cond (leb (length l) 128) (filled l) (replicate 128 (pos 0)) }
 

@@ -1,5 +1,5 @@
--- Multiples of points, of matrices and of interval ends, and the signs that stay under them: document 01's "Multiples are the same point" and "Signs stay", as the
--- theorems of this crate say it.
+-- Multiples of points, of matrices and of interval ends, and the signs that stay under them: document 01's "Multiples are the same point" and "Signs
+-- stay", as the theorems of this crate say it.
 use mathlib.Core.Path.{_≡_}
 use mathlib.Core.List.{List, [], _∷_}
 use lib.IntN.{ℤ, pos, _*ℤ_}

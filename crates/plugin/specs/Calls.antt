@@ -1,4 +1,5 @@
--- What sled_admit answers, for all inputs. (The built-in systems: crates/numbers/specs. Opening, a run, reading a job file: the specs of crates open_call, run_call and read_call.)
+-- What sled_admit answers, for all inputs. (The built-in systems: crates/numbers/specs. Opening, a run, reading a job file: the specs of crates
+-- open_call, run_call and read_call.)
 use mathlib.Core.Bool.{cond}
 use mathlib.Core.List.{List}
 use Prim.Native.Nat.{ℕ}

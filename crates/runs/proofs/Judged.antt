@@ -17,7 +17,8 @@ module _ {State Stop : Type 0} (m : Machine State Stop) (refused : ℕ → Stop)
   unfolding judgedRun unlessRefused
   refused-run n e = rw e
 
-  pub either : (P : Course State Stop → Type 0) → (judge s ≡ 0 → P (run m s r)) → ((n : ℕ) → judge s ≡ suc n → P (stopped (refused (suc n)) s)) → P (judgedRun m refused judge s r)
+  pub either : (P : Course State Stop → Type 0) →
+      (judge s ≡ 0 → P (run m s r)) → ((n : ℕ) → judge s ≡ suc n → P (stopped (refused (suc n)) s)) → P (judgedRun m refused judge s r)
   either P run-is refusal = by (judge s) refl
     where
       by : (n : ℕ) → judge s ≡ n → P (judgedRun m refused judge s r)

@@ -37,8 +37,8 @@ Halting P (goes t d) = Unit {0}
 Halting P (halts e) = P e
 
 module _ {State Stop : Type 0} where
-  -- what is asked of a step that goes from s, before r, to t and does d: it does what can be done, and it takes a byte for each digit that it holds more, or gives a
-  -- digit out, or holds one less
+  -- what is asked of a step that goes from s, before r, to t and does d: it does what can be done, and it takes a byte for each digit that it holds
+  -- more, or gives a digit out, or holds one less
   pub record Does (m : Machine State Stop) (s : State) (r : Supply) (t : State) (d : Deed) : Type 0 where
     pub pays : Pays d r
     pub costs : suc (m .held t) ≤ cost d + m .held s

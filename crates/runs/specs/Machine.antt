@@ -1,5 +1,5 @@
--- What makes one step. A machine stands in a state, with a supply before it. It either halts, which says why and changes nothing, or goes on to another state and does
--- a deed, which uses up a part of the supply.
+-- What makes one step. A machine stands in a state, with a supply before it. It either halts, which says why and changes nothing, or goes on to another
+-- state and does a deed, which uses up a part of the supply.
 use Prim.Native.Nat.{ℕ, _+_, _*_}
 use lib.ListN.{length}
 use Rattle.runs.specs.Supply.{Supply, Deed}
@@ -8,7 +8,8 @@ pub data Outcome (State Stop : Type 0) : Type 0 where
   goes : State → Deed → Outcome State Stop
   halts : Stop → Outcome State Stop
 
--- its step, how many digits a state holds that are taken and not yet absorbed, and why a run would stop that is granted no step (no run is, so nothing depends on it)
+-- its step, how many digits a state holds that are taken and not yet absorbed, and why a run would stop that is granted no step (no run is, so nothing
+-- depends on it)
 pub record Machine (State Stop : Type 0) : Type 0 where
   pub step : State → Supply → Outcome State Stop
   pub held : State → ℕ

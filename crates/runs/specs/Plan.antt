@@ -1,6 +1,6 @@
--- A step as a plan: it asks for what it needs in the order of the rules (a byte, a place for a digit, a place for a divisor), and stops where that is missing. Only a
--- plan that is followed to its `go` does anything; one that stops has done nothing. So a step that is written as a plan takes only bytes that are there, writes only
--- where there is room, and does the same before more: no instance has to prove any of that.
+-- A step as a plan: it asks for what it needs in the order of the rules (a byte, a place for a digit, a place for a divisor), and stops where that is
+-- missing. Only a plan that is followed to its `go` does anything; one that stops has done nothing. So a step that is written as a plan takes only bytes
+-- that are there, writes only where there is room, and does the same before more: no instance has to prove any of that.
 use mathlib.Core.List.{List, [], _∷_}
 use Prim.Native.Nat.{ℕ, zero, suc}
 use Rattle.runs.specs.Supply.{Supply, Deed, nothing, andThen, spend}

@@ -1,4 +1,5 @@
--- A run: the step, again and again, until one halts. First as the list of its steps, `Runs`, and then as what is worked out, `run`; proofs/Runs.antt has that they agree.
+-- A run: the step, again and again, until one halts. First as the list of its steps, `Runs`, and then as what is worked out, `run`; proofs/Runs.antt has
+-- that they agree.
 use mathlib.Core.Path.{_≡_}
 use Prim.Native.Nat.{ℕ, zero, suc, _+_}
 use Rattle.whole.specs.Refusal.{unlessRefused}
@@ -27,7 +28,8 @@ module _ {State Stop : Type 0} where
 
   pub data Runs (m : Machine State Stop) : State → Supply → Course State Stop → Type 0 where
     stops : {s : State} {r : Supply} (e : Stop) → m .step s r ≡ halts e → Runs m s r (stopped e s)
-    makes : {s : State} {r : Supply} {q : Course State Stop} (t : State) (d : Deed) → m .step s r ≡ goes t d → Runs m t (spend d r) q → Runs m s r (behind d 1 q)
+    makes : {s : State} {r : Supply} {q : Course State Stop} (t : State) (d : Deed) →
+        m .step s r ≡ goes t d → Runs m t (spend d r) q → Runs m s r (behind d 1 q)
 
   -- what follows a step; `more` is the rest of the run
   abbrev pub after : (State → Supply → Course State Stop) → State → Supply → Outcome State Stop → Course State Stop
@@ -42,7 +44,7 @@ module _ {State Stop : Type 0} where
   unfoldable pub run : Machine State Stop → State → Supply → Course State Stop
   run m s r = runBy m (suc (mostSteps m s r)) s r
 
-  -- A run that is judged before any step, by the number of the refusal, or 0: "it then answers the number, counts 0 and 0, the state as handed in, and an untouched
-  -- output". What judges a state may look at anything else that a run is given and never changes.
+  -- A run that is judged before any step, by the number of the refusal, or 0: "it then answers the number, counts 0 and 0, the state as handed in, and
+  -- an untouched output". What judges a state may look at anything else that a run is given and never changes.
   unfoldable pub judgedRun : Machine State Stop → (ℕ → Stop) → (State → ℕ) → State → Supply → Course State Stop
   judgedRun m refused judge s r = unlessRefused (judge s) (λ n. stopped (refused n) s) (run m s r)

@@ -1,9 +1,11 @@
--- What lies before a run, and what it does. A run reads the bytes of a word, or of two, and writes digits, and the divisors of its steps, into lists that are lent.
+-- What lies before a run, and what it does. A run reads the bytes of a word, or of two, and writes digits, and the divisors of its steps, into lists
+-- that are lent.
 use mathlib.Core.List.{List, [], _++_}
 use Prim.Native.Nat.{ℕ, _-_}
 use lib.ListN.{length, drop}
 
--- what lies before a run: the bytes of each word that are not taken (a run over one word has none in y), and the places that are free for digits and for divisors
+-- what lies before a run: the bytes of each word that are not taken (a run over one word has none in y), and the places that are free for digits and for
+-- divisors
 pub record Supply : Type 0 where
   pub x : List ℕ
   pub y : List ℕ
@@ -25,7 +27,12 @@ andThen d e = record { x = d .x ++ e .x; y = d .y ++ e .y; digits = d .digits ++
 
 -- what a deed leaves
 abbrev pub spend : Deed → Supply → Supply
-spend d r = record { x = drop (length (d .x)) (r .x); y = drop (length (d .y)) (r .y); room = r .room - length (d .digits); list = r .list - length (d .divisors) }
+spend d r = record {
+  x = drop (length (d .x)) (r .x);
+  y = drop (length (d .y)) (r .y);
+  room = r .room - length (d .digits);
+  list = r .list - length (d .divisors);
+}
 
 -- a lent list afterwards: what was written, and behind it what stood there
 abbrev pub written : List ℕ → List ℕ → List ℕ

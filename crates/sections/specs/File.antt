@@ -1,5 +1,5 @@
--- A file: sections one behind the other. A file is refused in a section where the sections before it are there and keep the rules, and the bytes from its count on break
--- this one. "The answer is the number and the section."
+-- A file: sections one behind the other. A file is refused in a section where the sections before it are there and keep the rules, and the bytes from
+-- its count on break this one. "The answer is the number and the section."
 use mathlib.Core.Path.{_≡_}
 use mathlib.Core.List.{List, [], _∷_, _++_}
 use Prim.Native.Nat.{ℕ, suc, _+_, _-_, _≤_, _<_}

@@ -1,5 +1,5 @@
--- A section: a count, and behind it as many bytes for each thing that is counted. "Files are judged in file order: a section's count present (1), count right (3, 4, 5),
--- section present (1), then contents."
+-- A section: a count, and behind it as many bytes for each thing that is counted. "Files are judged in file order: a section's count present (1), count
+-- right (3, 4, 5), section present (1), then contents."
 use mathlib.Core.Path.{_≡_}
 use mathlib.Core.Bool.{cond}
 use mathlib.Core.List.{List, _++_}

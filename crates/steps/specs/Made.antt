@@ -1,5 +1,5 @@
--- What a step of the code stands for, and what the inner functions of a run may rely on: it was judged before the first step, and each step keeps it. (Nothing of this
--- is asked of a plug-in.)
+-- What a step of the code stands for, and what the inner functions of a run may rely on: it was judged before the first step, and each step keeps it.
+-- (Nothing of this is asked of a plug-in.)
 use mathlib.Core.Path.{_≡_}
 use mathlib.Core.List.{List}
 use Prim.Native.Nat.{ℕ, _<_, _≤_}

@@ -1,6 +1,6 @@
--- "One step, first line that applies", with document 01's five lines in their order. "F, W are the input system's; G, U the output system's." The step is a plan: it
--- asks for a byte or a place where its line does, stops where that is missing, and changes something only where it goes on. So "A stop leaves the state as it was before
--- that step" is how it is read (crates/runs/specs/Plan.antt).
+-- "One step, first line that applies", with document 01's five lines in their order. "F, W are the input system's; G, U the output system's." The step
+-- is a plan: it asks for a byte or a place where its line does, stops where that is missing, and changes something only where it goes on. So "A stop
+-- leaves the state as it was before that step" is how it is read (crates/runs/specs/Plan.antt).
 use mathlib.Core.Bool.{cond}
 use mathlib.Core.List.{List, []}
 use mathlib.Core.Option.{Option, none, some}

@@ -10,8 +10,8 @@ use Rattle.steps.specs.Step.{Setting, setting, plain, oneWord}
 use Rattle.unary.specs.Types.{Answer}
 use Rattle.judging.specs.Refusal.{refusalOf}
 
--- "A run judges .. before any step; it then answers the number, counts 0 and 0, the state as handed in, and an untouched output." What it does, before the bytes of its
--- input and so many free places: why it stopped, its state, the bytes taken, the digits given out.
+-- "A run judges .. before any step; it then answers the number, counts 0 and 0, the state as handed in, and an untouched output." What it does, before
+-- the bytes of its input and so many free places: why it stopped, its state, the bytes taken, the digits given out.
 unfoldable pub courseOf : System → System → State → List ℕ → ℕ → Course State Stop
 courseOf a b s input room = judgedRun (plain (setting a b)) Refused (refusalOf (setting a b)) s (oneWord input room)
 
@@ -49,7 +49,10 @@ unfilled r = drop (r .answer .written .0) (r .output)
 
 -- the same stop and the same state, counts 0 and 0, and that room as it was
 abbrev pub sameStop : Ran → Ran
-sameStop r = record { answer = record { stop = r .answer .stop; taken = record { 0 = 0 }; written = record { 0 = 0 }; state = r .answer .state }; output = unfilled r }
+sameStop r = record {
+  answer = record { stop = r .answer .stop; taken = record { 0 = 0 }; written = record { 0 = 0 }; state = r .answer .state };
+  output = unfilled r;
+}
 
 -- two runs, the second into the room that the first left: the counts add up, the digits are appended, the end and the state are the second's
 abbrev pub followedBy : Ran → Ran → Ran

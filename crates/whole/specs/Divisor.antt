@@ -1,9 +1,9 @@
--- The greatest common divisor, as the contracts mean it: of two natural numbers by Euclid's remainder step, and of the four numbers of a matrix; and what it is to divide
--- four numbers, or one, by a number.
+-- The greatest common divisor, as the contracts mean it: of two natural numbers by Euclid's remainder step, and of the four numbers of a matrix; and
+-- what it is to divide four numbers, or one, by a number.
 --
--- gcd 12 18 goes 12 18, 18 12, 12 6, 6 0, and is 6; `gcd4` of [4, −6, 0, 10] is 2, and `divided` of it by 2 is [2, −3, 0, 5]. proofs/Divisor.antt proves that this is the
--- greatest common divisor in the usual sense. `gcdBy` is only the way `gcd` is defined: cite `gcd`. The definitions are `unfoldable`, so that a proof sees a name until
--- it asks for more.
+-- gcd 12 18 goes 12 18, 18 12, 12 6, 6 0, and is 6; `gcd4` of [4, −6, 0, 10] is 2, and `divided` of it by 2 is [2, −3, 0, 5]. proofs/Divisor.antt proves
+-- that this is the greatest common divisor in the usual sense. `gcdBy` is only the way `gcd` is defined: cite `gcd`. The definitions are `unfoldable`,
+-- so that a proof sees a name until it asks for more.
 use mathlib.Core.Bool.{Bool}
 use mathlib.Core.List.{List, [], _∷_}
 use Prim.Native.Nat.{ℕ, zero, suc, _%_, _<_, _∣_}

@@ -1,7 +1,8 @@
 -- Ranges of whole numbers. A list of four whole numbers is a matrix, or the two ends of an interval.
 --
--- `at m 2` is the third number of m (0 where the list has none); `Near 100 z` says −100 ≤ z ≤ 100; `Within 100 m` says it of the four numbers of m, and `within? 100 m`
--- is the test of it. Both are records, so that a proof which has one need not be told its bound and its number. Their laws are in proofs/Range.antt.
+-- `at m 2` is the third number of m (0 where the list has none); `Near 100 z` says −100 ≤ z ≤ 100; `Within 100 m` says it of the four numbers of m, and
+-- `within? 100 m` is the test of it. Both are records, so that a proof which has one need not be told its bound and its number. Their laws are in
+-- proofs/Range.antt.
 use mathlib.Core.Bool.{Bool, _&&_}
 use mathlib.Core.List.{List}
 use Prim.Native.Nat.{ℕ, _≤_}
