@@ -83,6 +83,8 @@ enum sled_number {
     SLED_REFUSED_LONG = 2,      /* bytes follow the word */
     SLED_REFUSED_FOUR = 4,      /* the matrix count is not 4 */
     SLED_REFUSED_WORD = 5,      /* the word count is above 4096 */
+
+    /* a refusal of any call, before all others */
     SLED_REFUSED_LENGTH = 40    /* a slice has the wrong length */
 };
 
@@ -130,7 +132,8 @@ uint32_t sled_open(const int64_t *matrix, size_t matrix_length, int64_t *state, 
      SLED_OK, SLED_END_..   counts[0] is how many bytes were taken, counts[1] how many digits were written, from the start of the output on; the state is the new one. The
                             bytes of the output behind the written ones are unchanged. To go on after SLED_OK or SLED_END_NO_ROOM, call again with this state, the input
                             from the first byte that was not taken, and new room. After SLED_END_NOT_A_DIGIT pass over or mend the byte first. After
-                            SLED_END_RANGE_LEFT the session is over: with the same digits it stops again.
+                            SLED_END_RANGE_LEFT the session is over: whatever input and room a call from this state is given, it takes nothing, writes nothing, leaves
+                            the state and answers SLED_END_RANGE_LEFT again; or SLED_END_NO_ROOM, if output_length is 0 and a digit could be given out.
      SLED_REFUSED_..        of the input system (COUNT, RANGE, MAP, INTERVAL, LOWEST, GAP, as sled_admit), then of the output system, then SLED_REFUSED_STATE: counts[0]
                             and counts[1] are 0, and the state and the output are unchanged.
      SLED_REFUSED_LENGTH    the length of a system is no multiple of 8, state_length is not SLED_STATE or counts_length is not SLED_COUNTS: nothing is written, not even

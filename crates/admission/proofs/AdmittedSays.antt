@@ -127,6 +127,10 @@ admitted-says s = let c = some-case s in subst (SystemCase s) (admitted-only s (
 pub admitted-exactly : (s : System) (v : Admission) → (admissionOf s ≡ v) ↔ SystemCase s v
 admitted-exactly s v = (λ e. subst (SystemCase s) e (admitted-says s), λ c. sym (admitted-only s v c))
 
+-- no two of document 01's sentences hold of one system
+pub one-sentence : (s : System) (v w : Admission) → SystemCase s v → SystemCase s w → v ≡ w
+one-sentence s v w p q = admitted-only s v p ∙ sym (admitted-only s w q)
+
 -- ---- what an admitted system grants
 
 pub admitted-few : (s : System) → admissionOf s ≡ Admitted → s .count ≤ 16

@@ -1,8 +1,7 @@
 -- What the crates above may use of this one.
 -- each answer is given exactly when document 01's sentence holds: of a row, and of a system
 pub use Rattle.admission.proofs.RowSays.{row-says, row-only, row-exactly}
-pub use Rattle.admission.proofs.AdmittedSays.{admitted-says, admitted-only, admitted-exactly, admitted-few, admitted-digits, small, one-digit-not-admissible, one-digit-refused}
-pub use Rattle.admission.proofs.OneAnswer.{one-answer, one-sentence}
+pub use Rattle.admission.proofs.AdmittedSays.{admitted-says, admitted-only, admitted-exactly, one-sentence, admitted-few, admitted-digits, small, one-digit-not-admissible, one-digit-refused}
 -- the numbers of refusal
 pub use Rattle.admission.proofs.Numbers.{number-0, not-refused, admission-number}
 -- what is kept for digits that a system hasn't got

@@ -3,11 +3,9 @@
 --   RowSays, AdmittedSays               each refusal number is given exactly when document 01's sentence holds
 --   UnusedRows                          what is kept for digits that a system hasn't got changes no answer
 --   BuiltIn                             R, D and B are admitted
---   OneAnswer                           no second answer fits
 pub mod Laws
 mod Numbers
 mod RowSays
 mod AdmittedSays
 mod UnusedRows
 mod BuiltIn
-mod OneAnswer

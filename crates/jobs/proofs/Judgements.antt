@@ -2,7 +2,7 @@
 use Rattle.whole.proofs.Laws.{_≡_, refl, sym, ap, _∙_, subst, not, List, ℕ, zero, suc, _*_, _-_, _≤_, _<_, decLt, arith, eqb, length, replicate, length-append, List·getD-eq-default, getD-take, length-take-le, ℤ, pos, negsuc, at, Near, Within}
 use Rattle.digits.proofs.Laws.{filled, numbers-near, System}
 use Rattle.admission.proofs.Laws.{refusalNumber, admissionOf, Admissible, SystemCase, not-refused, admitted-says, admitted-only}
-use Rattle.opening.proofs.Laws.{openingNumber, openingOf, OpeningCase, Opening, Opens, OutOfRange, NotAbove, opening-says, one-opening-sentence}
+use Rattle.opening.proofs.Laws.{openingNumber, openingOf, OpeningCase, Opening, Opens, OutOfRange, NotAbove, opening-says, one-case}
 use lib.ListN.{length-replicate}
 use Rattle.job_sections.proofs.Laws.{rowsOf, SystemRules, MatrixRules, Signed16, Sixteen, system, matrix, pos-16, negsuc-16}
 
@@ -18,7 +18,7 @@ pub matrix-gives : (m : List ℤ) → matrix .Gives m (matrix .number m)
 matrix-gives m = record { answer = openingOf m; numbered = refl; holds = opening-says m }
 
 pub matrix-given : (m : List ℤ) (number : ℕ) → matrix .Gives m number → matrix .number m ≡ number
-matrix-given m number g = ap openingNumber (one-opening-sentence m (openingOf m) (g .answer) (opening-says m) (g .holds)) ∙ g .numbered
+matrix-given m number g = ap openingNumber (one-case m (openingOf m) (g .answer) (opening-says m) (g .holds)) ∙ g .numbered
 
 -- 0 is the number of one sentence alone
 pub admitted : {s : System} → system .Gives s 0 → Admissible s

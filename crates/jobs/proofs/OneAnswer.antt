@@ -1,15 +1,11 @@
--- "That no second answer fits is itself proved": the promise of `read` is an equation, so that two answers which keep it are the same; and no file both reads as a job
--- and is refused, or is refused in two ways.
+-- No file both reads as a job and is refused, or is refused in two ways.
 use Rattle.whole.proofs.Laws.{_≡_, sym, ap, _∙_, List, ℕ, arith}
 use Rattle.jobs.specs.Types.{Reads, Refused, Reading}
 use Rattle.job_sections.proofs.Laws.{Contents}
-use Rattle.jobs.specs.Reading.{readingOf, readOf}
+use Rattle.jobs.specs.Reading.{readingOf}
 use Rattle.jobs.specs.Reads.{ReadsAs}
 use Rattle.jobs.specs.Refuses.{Refuses}
 use Rattle.jobs.proofs.ReadsExactly.{refuses-read}
-
-pub one-answer : (file : List ℕ) (r r′ : Reading) → r ≡ readOf file → r′ ≡ readOf file → r ≡ r′
-one-answer file r r′ p q = p ∙ sym q
 
 reads-not-refused : {number section : ℕ} → Reads ≡ Refused number section → ⊥
 reads-not-refused e = let z : _≡_ {A = ℕ} 0 1 = cc in omega arith

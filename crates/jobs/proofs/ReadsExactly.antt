@@ -1,7 +1,7 @@
 -- A job file is read exactly by its layout. `reads-exactly`: a file reads as a job exactly if it is that job's layout and the contents keep the rules. `refuses-exactly`: a
 -- file is refused by a number in a section exactly if document 01's sentence for that number holds there and every section before keeps the rules. `read-says`: one of the
 -- two is the case for every file. Each is what holds of every file of sections.
-use Rattle.whole.proofs.Laws.{_≡_, refl, sym, ap, _∙_, subst, List, _++_, append-nil, append-assoc, _↔_, ℕ, _+_, _≤_, arith, length, take, drop, length-append, drop-at}
+use Rattle.whole.proofs.Laws.{_≡_, refl, sym, ap, ap₂, _∙_, subst, List, _++_, append-nil, append-assoc, _↔_, ℕ, _+_, _≤_, arith, length, take, drop, length-append, drop-at}
 use Rattle.digits.proofs.Laws.{System}
 use Rattle.admission.proofs.Laws.{Admitted}
 use Rattle.opening.proofs.Laws.{Opens}
@@ -11,7 +11,7 @@ use Rattle.sections.specs.Section.{Rules as Kept}
 use Rattle.sections.specs.File.{Says as FileSays}
 use Rattle.jobs.specs.Types.{Verdict, Reads, Refused, Reading}
 use Rattle.job_sections.proofs.Laws.{Contents, twoBytes, systemBytes, matrixBytes, wordBytes, layoutOf, Bytes, SystemRules, Rules, system}
-use Rattle.jobs.specs.Reading.{wordStart, readingOf, refused, Parts, job, contentsOf, readOf}
+use Rattle.jobs.specs.Reading.{verdictNumber, verdictSection, wordStart, readingOf, refused, Parts, job, contentsOf, readOf}
 use Rattle.jobs.specs.Reads.{ReadsAs}
 use Rattle.jobs.specs.Refuses.{Refuses}
 use Rattle.jobs.proofs.Judgements.{admitted, opened, system-16, matrix-16}
@@ -84,6 +84,18 @@ refuses-exactly file b number section = (
   λ e. subst (Says file) e (read-says file b),
   λ r. ap (λ (a : Reading). a .verdict) (refuses-read file number section r),
 )
+
+-- the same by the answer's number and section: no refusal has the number 0
+pub number-exactly : (file : List ℕ) → Bytes file → (number section : ℕ) → 1 ≤ number →
+    ((verdictNumber (readOf file .verdict) ≡ number) × (verdictSection (readOf file .verdict) ≡ section)) ↔ Refuses file number section
+number-exactly file b number section above = (
+  λ e. refuses-exactly file b number section .0 (by (readOf file .verdict) (e .0) (e .1)),
+  λ r. let e = refuses-exactly file b number section .1 r in (ap verdictNumber e, ap verdictSection e),
+)
+  where
+    by : (v : Verdict) → verdictNumber v ≡ number → verdictSection v ≡ section → v ≡ Refused number section
+    by Reads e f = absurd (omega (arith, e, above))
+    by (Refused n s) e f = ap₂ Refused e f
 
 -- "A refused reading .. hands back its number (reading also the section), no job"
 pub refused-no-job : (file : List ℕ) → Bytes file → (number section : ℕ) → readOf file .verdict ≡ Refused number section → readOf file ≡ refused number section

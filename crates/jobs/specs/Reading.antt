@@ -1,5 +1,5 @@
--- What `read` answers: "The answer is the number and the section, 0 to 3 (2 has section 3)", or the job. The theorems `reads-exactly` and `refuses-exactly` (proofs/) say what
--- the answers mean, by crates/job_sections/specs/Layout.antt and specs/Refuses.antt.
+-- What `read` answers: "The answer is the number and the section, 0 to 3 (2 has section 3)", or the job. The theorems `reads-exactly` and
+-- `refuses-exactly` (proofs/) say what the answers mean, by crates/job_sections/specs/Layout.antt and specs/Refuses.antt.
 use mathlib.Core.List.{List}
 use Prim.Native.Nat.{ℕ, _+_, _*_}
 use lib.ListN.{length, replicate}
@@ -7,9 +7,19 @@ use lib.IntN.{ℤ, pos}
 use Rattle.sections.specs.File.{File, nothing, _then_}
 use Rattle.digits.specs.Types.{System}
 use Rattle.opening.specs.Opening.{noMatrix}
-use Rattle.jobs.specs.Types.{Reads, Refused, Job, Reading}
+use Rattle.jobs.specs.Types.{Verdict, Reads, Refused, Job, Reading}
 use Rattle.job_sections.specs.Layout.{Contents}
 use Rattle.job_sections.specs.Sections.{system, matrix, word}
+
+-- ---- "The answer is the number and the section, 0 to 3": 0 and 0 where the file reads
+
+abbrev pub verdictNumber : Verdict → ℕ
+verdictNumber Reads = 0
+verdictNumber (Refused number section) = number
+
+abbrev pub verdictSection : Verdict → ℕ
+verdictSection Reads = 0
+verdictSection (Refused number section) = section
 
 -- ---- a file that reads
 

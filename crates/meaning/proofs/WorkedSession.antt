@@ -16,7 +16,8 @@ use Rattle.judging.proofs.Laws.{state?, refusalOf}
 use Rattle.unary.proofs.Laws.{courseOf}
 use Rattle.meaning.specs.Names.{namedFrom, productOf, EachInItsInterval, UpToScale}
 use Rattle.meaning.specs.Session.{Session}
-use Rattle.meaning.proofs.Sessions.{session-product, session-numbers}
+use Rattle.meaning.proofs.Sessions.{newly-opened, called-again, session-product, session-named, session-numbers}
+use Rattle.meaning.proofs.Claims.{of-the}
 use Rattle.meaning.proofs.Premise.{_over_, R, computed, holds-at-1, held-holds}
 
 -- ---- the sessions
@@ -30,32 +31,32 @@ SessionR taken given s = Session (systemOf rowsR) (systemOf rowsR) (four 2 1 1 2
 
 pub new : SessionR [] [] (record { matrix = four 2 1 1 2; held = Nothing })
 unfolding openOf within? determinantOf cancelOf gcd4 gcd gcdBy
-new = Session.opened r-admitted r-admitted refl
+new = newly-opened r-admitted r-admitted refl
 
 pub whole-word : SessionR (0 ∷ 0 ∷ 1 ∷ []) (0 ∷ 1 ∷ 1 ∷ []) (record { matrix = four 2 1 1 2; held = Nothing })
 unfolding systemOf admissionOf rowsVerdict rowVerdict within? gcd gcd4 gcdBy fourAt transformationAt intervalAt first unlessRefused closed? same? included? determinantOf
     pseudoinverseOf apply multiplyOf imageOf cancelOf state? fittingOf follow runBy run refusalOf judgedRun courseOf
-whole-word = Session.called new (0 ∷ 0 ∷ 1 ∷ []) (replicate 8 0)
+whole-word = called-again new (0 ∷ 0 ∷ 1 ∷ []) (replicate 8 0)
 
 pub half-way : SessionR (0 ∷ 0 ∷ 1 ∷ []) (0 ∷ 1 ∷ []) (record { matrix = four 3 0 1 1; held = Digit 1 })
 unfolding systemOf admissionOf rowsVerdict rowVerdict within? gcd gcd4 gcdBy fourAt transformationAt intervalAt first unlessRefused closed? same? included? determinantOf
     pseudoinverseOf apply multiplyOf imageOf cancelOf state? fittingOf follow runBy run refusalOf judgedRun courseOf
-half-way = Session.called new (0 ∷ 0 ∷ 1 ∷ []) (replicate 2 0)
+half-way = called-again new (0 ∷ 0 ∷ 1 ∷ []) (replicate 2 0)
 
 pub two-calls : SessionR (0 ∷ 0 ∷ 1 ∷ []) (0 ∷ 1 ∷ 1 ∷ []) (record { matrix = four 2 1 1 2; held = Nothing })
 unfolding systemOf admissionOf rowsVerdict rowVerdict within? gcd gcd4 gcdBy fourAt transformationAt intervalAt first unlessRefused closed? same? included? determinantOf
     pseudoinverseOf apply multiplyOf imageOf cancelOf state? fittingOf follow runBy run refusalOf judgedRun courseOf
-two-calls = Session.called half-way [] (replicate 6 0)
+two-calls = called-again half-way [] (replicate 6 0)
 
 -- ---- the product, in plain numbers
 
 pub whole-product : UpToScale (four 4 5 5 7) (four 4 5 5 7)
 unfolding multiplyOf productOf fourAt transformationAt intervalAt systemOf
-whole-product = session-product whole-word (0 ∷ 0 ∷ 1 ∷ []) refl
+whole-product = of-the (session-product whole-word) (0 ∷ 0 ∷ 1 ∷ []) refl
 
 pub half-product : UpToScale (four 4 1 5 2) (four 4 1 5 2)
 unfolding multiplyOf productOf fourAt transformationAt intervalAt systemOf
-half-product = session-product half-way (0 ∷ 0 ∷ []) refl
+half-product = of-the (session-product half-way) (0 ∷ 0 ∷ []) refl
 
 -- the four numbers with the held digit absorbed are no multiple of that
 pub held-not-absorbed : UpToScale (four 4 1 5 2) (multiplyOf (four 2 1 1 2) (productOf R (0 ∷ 0 ∷ 1 ∷ []))) → ⊥
@@ -81,14 +82,9 @@ pub record SaysWhole : Type 0 where
 pub whole-numbers : SaysWhole
 unfolding namedFrom EachInItsInterval apply fourAt transformationAt intervalAt systemOf
 whole-numbers =
-    let n = session-numbers whole-word (0 ∷ 0 ∷ 1 ∷ []) refl (pos 1 over pos 1) (fraction 1) holds-at-1 tt in
-    record {
-      still-to-come = n .still-to-come;
-      same-number = n .same-number;
-      digit-0 = n .each-in-its-interval .0;
-      digit-1 = n .each-in-its-interval .1 .0;
-      digit-1-again = n .each-in-its-interval .1 .1 .0;
-    }
+    let n = of-the (session-named whole-word) (0 ∷ 0 ∷ 1 ∷ []) refl (pos 1 over pos 1) (fraction 1) in
+    let each = of-the (session-numbers whole-word) (0 ∷ 0 ∷ 1 ∷ []) refl (pos 1 over pos 1) (fraction 1) holds-at-1 tt in
+    record { still-to-come = n .still-to-come; same-number = n .same-number; digit-0 = each .0; digit-1 = each .1 .0; digit-1-again = each .1 .1 .0 }
 
 pub record SaysHalf : Type 0 where
   pub still-to-come : Point (pos 6 over pos 3)
@@ -99,5 +95,6 @@ pub record SaysHalf : Type 0 where
 pub half-numbers : SaysHalf
 unfolding namedFrom EachInItsInterval apply fourAt transformationAt intervalAt systemOf closed?
 half-numbers =
-    let n = session-numbers half-way (0 ∷ 0 ∷ []) refl (pos 2 over pos 1) (fraction 2) (computed tt, (computed tt, tt)) held-holds in
-    record { still-to-come = n .still-to-come; same-number = n .same-number; digit-0 = n .each-in-its-interval .0; digit-1 = n .each-in-its-interval .1 .0 }
+    let n = of-the (session-named half-way) (0 ∷ 0 ∷ []) refl (pos 2 over pos 1) (fraction 2) in
+    let each = of-the (session-numbers half-way) (0 ∷ 0 ∷ []) refl (pos 2 over pos 1) (fraction 2) (computed tt, (computed tt, tt)) held-holds in
+    record { still-to-come = n .still-to-come; same-number = n .same-number; digit-0 = each .0; digit-1 = each .1 .0 }

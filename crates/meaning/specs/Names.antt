@@ -1,6 +1,6 @@
 -- What digits name. "If z is named by what follows digit a, F_a(z) is named from a on."
 use mathlib.Core.Path.{_≡_}
-use mathlib.Core.List.{List, [], _∷_}
+use mathlib.Core.List.{List, [], _∷_, _++_}
 use Prim.Native.Nat.{ℕ, _<_}
 use lib.IntN.{ℤ, pos, _*ℤ_}
 use Rattle.plane.specs.Plane.{Pair, apply, determinantOf, multiplyOf, Closed}
@@ -38,6 +38,13 @@ HeldInItsInterval y (Digit a) t = Closed (interval y a) t
 abbrev pub heldDigits : Held → List ℕ
 heldDigits Nothing = []
 heldDigits (Digit a) = a ∷ []
+
+-- The absorbed digits are the bytes that went in without the held one, which went in last. There is exactly one such list, and the claim holds of it.
+pub record OfTheAbsorbed (bytes : List ℕ) (h : Held) (Claim : List ℕ → Type 0) : Type 0 where
+  pub absorbed : List ℕ
+  pub with-the-held : absorbed ++ heldDigits h ≡ bytes
+  pub no-other : (other : List ℕ) → other ++ heldDigits h ≡ bytes → other ≡ absorbed
+  pub holds : Claim absorbed
 
 -- "equals, up to a positive scale": p·A = q·B for some whole numbers p and q above 0
 pub record UpToScale (a b : List ℤ) : Type 0 where

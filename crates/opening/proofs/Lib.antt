@@ -1,5 +1,3 @@
--- Opening, as theorems: each answer is given exactly in its case, and the opened state keeps the rules (OpeningSays); no second answer fits (OneAnswer). Laws is the
--- front door.
+-- Opening, as theorems: each answer is given exactly in its case, and the opened state keeps the rules (OpeningSays). Laws is the front door.
 pub mod Laws
 mod OpeningSays
-mod OneAnswer

@@ -1,9 +1,9 @@
 -- Opening: "6, then 11". Each answer is given exactly in its case; and where it opens, the state that is handed out keeps the rules for a state.
-use Rattle.whole.proofs.Laws.{_≡_, refl, sym, _∙_, ap, subst, Bool, true, false, cond, true≢false, List, _↔_, ℕ, ℤ, pos, ltZ, clashℤ, Within, within-le, lt-true, lt-false, within?, within-says, says-within}
+use Rattle.whole.proofs.Laws.{_≡_, refl, sym, _∙_, ap, subst, Bool, true, false, cond, true≢false, List, _↔_, ℕ, arith, ℤ, pos, ltZ, clashℤ, Within, within-le, lt-true, lt-false, within?, within-says, says-within}
 use Rattle.plane.proofs.Laws.{determinantOf, cancel-within}
 use Rattle.states.proofs.Laws.{StateRules, cancelled-rules}
 use Rattle.opening.specs.Types.{Opening, Opens, OutOfRange, NotAbove, Start}
-use Rattle.opening.specs.Opening.{openingOf, openOf, OpeningCase, startOf}
+use Rattle.opening.specs.Opening.{openingNumber, openingOf, openOf, OpeningCase, startOf}
 
 -- the answer that is given, by the two tests
 by-above : (m : List ℤ) (t : Bool) → ltZ (pos 0) (determinantOf m) ≡ t → Within 1000 m → OpeningCase m (cond t Opens NotAbove)
@@ -27,8 +27,8 @@ handed : (m : List ℤ) → openOf m .opening ≡ openingOf m
 unfolding openOf
 handed m = handed-out m (openingOf m)
 
--- no two of the three cases hold
-one-case : (m : List ℤ) (v w : Opening) → OpeningCase m v → OpeningCase m w → v ≡ w
+-- no two of document 01's sentences on opening hold of one matrix
+pub one-case : (m : List ℤ) (v w : Opening) → OpeningCase m v → OpeningCase m w → v ≡ w
 one-case m Opens Opens p q = refl
 one-case m Opens OutOfRange p q = absurd (q (p .0))
 one-case m Opens NotAbove p q = absurd (clashℤ (p .1) (q .1))
@@ -38,6 +38,12 @@ one-case m OutOfRange NotAbove p q = absurd (p (q .0))
 one-case m NotAbove Opens p q = absurd (clashℤ (q .1) (p .1))
 one-case m NotAbove OutOfRange p q = absurd (q (p .0))
 one-case m NotAbove NotAbove p q = refl
+
+-- only "opens" has the number 0
+pub opening-0 : (v : Opening) → openingNumber v ≡ 0 → v ≡ Opens
+opening-0 Opens e = refl
+opening-0 OutOfRange e = absurd (omega arith)
+opening-0 NotAbove e = absurd (omega arith)
 
 -- each answer is given exactly in its case
 pub opens : (m : List ℤ) (v : Opening) → (openOf m .opening ≡ v) ↔ OpeningCase m v

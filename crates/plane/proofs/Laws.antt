@@ -16,6 +16,8 @@ pub use Rattle.plane.proofs.Moves.{between, inside-sign, closed-sign, i
 pub use Rattle.plane.proofs.Points.{same-point, same-refl, same-sym, same-trans, same-scale, same-multiple, point-same, same-det, det-same}
 pub use Rattle.plane.proofs.Points.{same-moves, same-undone, same-redone, same-back, same-scaled, inside-same, closed-same}
 pub use Rattle.plane.proofs.Ends.{ends-scaled, inside-ends, inside-ends-back, closed-ends, closed-ends-back, interval-ends, interval-ends-back}
+-- "So (1/0, 1/−1) runs from infinity to −1"
+pub use Rattle.plane.proofs.Below.{infinity-to-minus-1, from-infinity-to-minus-1}
 -- cancelling
 pub use Rattle.plane.proofs.Cancelling.{times-entries, scale-times, divisor-above, cancel-times, cancel-lowest, cancel-det-above, CancelSays, cancel-says}
 -- machine words, and ranges
@@ -25,4 +27,5 @@ pub use Rattle.plane.proofs.Ranges.{within-products, pseudoinverse-with
 pub use Rattle.plane.specs.Plane.{Closed, Inside, Interval, Pair, Point, SamePoint, det, left, right}
 unfoldable pub use Rattle.plane.specs.Plane.{apply, cancelOf, determinantOf, imageOf, multiplyOf, pseudoinverseOf}
 pub use Rattle.plane.specs.Scale.{DetAbove, entries}
+pub use Rattle.plane.specs.Below.{infinityToMinus1, BelowMinus1}
 unfoldable pub use Rattle.plane.specs.Scale.{scaleOf, scalePair}

@@ -1,6 +1,6 @@
 -- Ranges of what `plane` computes, from the ranges of what it is given: if the entries of two matrices lie within a and b, those of their product lie within 2·a·b.
 -- The crates above show by these what the functions require.
-use Rattle.whole.proofs.Laws.{_≡_, true, _&&_, List, inl, inr, ℕ, suc, _+_, _-_, _*_, _^_, _≤_, _<_, _∣_, arith, le-leb, T, ltb, leb, ℤ, natAbs, _+ℤ_, _*ℤ_, at, Near, Within, gcd4, divided, Divides4, both-true, true-both, near-neg, near-mul, near-add, near-quot, gcd4-divides, gcd4-greatest}
+use Rattle.whole.proofs.Laws.{List, inl, inr, ℕ, suc, _+_, _-_, _*_, _^_, _≤_, _<_, _∣_, arith, T, ltb, ℤ, natAbs, _+ℤ_, _*ℤ_, Near, Within, gcd4, divided, Divides4, near-neg, near-mul, near-add, near-quot, gcd4-divides, gcd4-greatest}
 use native.Mathlib.Nat as N
 use Rattle.plane.specs.Fits.{Products}
 use Rattle.plane.specs.Plane.{pseudoinverseOf, multiplyOf, apply, imageOf, cancelOf}

@@ -1,6 +1,2 @@
--- The C functions, as theorems: the front door is Laws.
---   BuiltIn    a built-in system in memory has its table's rows
---   OneAnswer  no second answer fits
-pub mod Laws
+-- The folders prove the functions of src/lib.rt. What holds of their answers: crates/answers. BuiltIn: a built-in system in memory has its table's rows.
 mod BuiltIn
-mod OneAnswer

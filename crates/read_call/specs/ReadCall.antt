@@ -7,21 +7,20 @@ use lib.ListN.{length}
 use lib.IntN.{ℤ}
 use Rattle.plane.specs.Scale.{entries}
 use Rattle.whole.specs.Refusal.{unlessRefused}
-use Rattle.jobs.specs.Types.{Verdict, Reads, Refused, Job, Reading}
-use Rattle.jobs.specs.Reading.{readOf}
+use Rattle.jobs.specs.Types.{Verdict, Job, Reading}
+use Rattle.jobs.specs.Reading.{verdictNumber, verdictSection, readOf}
 use Rattle.numbers.specs.Numbers.{wrongLength}
 
 -- "The answer is the number and the section, 0 to 3": one number, number + 256 · section, and 0 where the file reads
-abbrev pub verdictNumber : Verdict → ℕ
-verdictNumber Reads = 0
-verdictNumber (Refused number section) = number + 256 * section
+abbrev pub callNumber : Verdict → ℕ
+callNumber v = verdictNumber v + 256 * verdictSection v
 
 -- it is asked only where the lengths are right of what is written over: all rows of two systems, a matrix, and what else is found
 abbrev pub readLengths? : ℕ → ℕ → ℕ → ℕ → Bool
 readLengths? input-rows output-rows m found = eqb input-rows 128 && eqb output-rows 128 && eqb m 4 && eqb found 4
 
 abbrev pub readNumber : ℕ → ℕ → ℕ → ℕ → Verdict → ℕ
-readNumber input-rows output-rows m found v = cond (readLengths? input-rows output-rows m found) (verdictNumber v) wrongLength
+readNumber input-rows output-rows m found v = cond (readLengths? input-rows output-rows m found) (callNumber v) wrongLength
 
 -- what reading leaves: its answer, the rows of the two systems, the matrix, and what else is found
 pub record AfterRead : Type 0 where
@@ -34,7 +33,8 @@ pub record AfterRead : Type 0 where
 abbrev pub afterRead : ℕ → List ℤ → List ℤ → List ℤ → List ℕ → AfterRead
 afterRead n input output m found = record { number = n; input-rows = input; output-rows = output; matrix = m; found = found }
 
--- a job: all 16 rows of each system, 0 for the digits that it hasn't got; the four entries; then the two counts of digits, and where the word starts and how long it is
+-- a job: all 16 rows of each system, 0 for the digits that it hasn't got; the four entries; then the two counts of digits, and where the word starts and
+-- how long it is
 abbrev pub foundNumbers : Job → List ℕ
 foundNumbers j = j .input .count ∷ j .output .count ∷ j .word .start ∷ j .word .length ∷ []
 

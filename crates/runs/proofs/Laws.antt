@@ -3,7 +3,7 @@
 pub use Rattle.runs.proofs.Spending.{within, and-nothing, and-then, spend-nothing, nothing-pays}
 pub use Rattle.runs.proofs.Written.{behind-unchanged, front-written, length-written, written-both}
 -- what holds of every run, and of every judged run
-pub use Rattle.runs.proofs.Runs.{does, runs, only, paid, keeps, few-steps, last-step, stops-again, cut-anywhere, same-runs, Always}
+pub use Rattle.runs.proofs.Runs.{does, granted, runs, only, paid, keeps, few-steps, last-step, stops-again, cut-anywhere, same-runs, Always}
 pub use Rattle.runs.proofs.Judged.{accepted-run, refused-run, either, judged-stops-again, judged-cut-anywhere}
 -- machines that go by plans
 pub use Rattle.runs.proofs.Plans.{follow-each, each-test, follow-halts, stop-test, Cheap, planned-lawful, planned-steady, steady-always}

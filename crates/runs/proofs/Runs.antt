@@ -30,7 +30,7 @@ module _ {State Stop : Type 0} {m : Machine State Stop} (lawful : Lawful m) wher
   next s r k v e = rw e
 
   -- whatever number of steps is granted, if it is more than `mostSteps`
-  granted : {s : State} {r : Supply} {q : Course State Stop} → Runs m s r q → (k : ℕ) → mostSteps m s r < k → runBy m k s r ≡ q
+  pub granted : {s : State} {r : Supply} {q : Course State Stop} → Runs m s r q → (k : ℕ) → mostSteps m s r < k → runBy m k s r ≡ q
   granted g zero h = absurd (omega arith)
   granted {s} {r} (stops e p) (suc k) h = next s r k (halts e) p
   granted {s} {r} (makes t d p g) (suc k) h = next s r k (goes t d) p ∙ ap (behind d 1) (granted g k (omega (arith, falls s t r d p)))
@@ -94,7 +94,8 @@ module _ {State Stop : Type 0} {m : Machine State Stop} (lawful : Lawful m) wher
         subst (Runs m s (join r more)) (λ i. record { stop = long .stop; state = long .state; did = sym (and-then d (q .did) (long .did)) i; steps = n i })
         (makes {q = followedBy q long} t d (same .same-outcome) (rw (spend-join more (does s t r d p .pays)) rest))
 
-    pub cut-anywhere : (s : State) (r : Supply) → Unseen s r → let q = run m s r in run m s (join r more) ≡ followedBy q (run m (q .state) (join (spend (q .did) r) more))
+    pub cut-anywhere : (s : State) (r : Supply) → Unseen s r → let q = run m s r in
+        run m s (join r more) ≡ followedBy q (run m (q .state) (join (spend (q .did) r) more))
     cut-anywhere s r u = only (goes-on (runs s r) u (runs (run m s r .state) (join (spend (run m s r .did) r) more)))
 
 -- ---- two machines that make the same steps wherever P holds, which each step keeps

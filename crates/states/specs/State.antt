@@ -7,7 +7,7 @@ use lib.IntN.{ℤ, pos}
 use lib.Signed.{_<ℤ_}
 use Rattle.whole.specs.Range.{Within}
 use Rattle.whole.specs.Divisor.{gcd4}
-use Rattle.plane.specs.Plane.{determinantOf, cancelOf}
+use Rattle.plane.specs.Plane.{determinantOf}
 use Rattle.states.specs.Types.{Held, Nothing, Digit, State, Stop, InputUsed, NoRoom, NotADigit, RangeLeft, Refused}
 
 -- ---- a state is built in these four ways (and at the C boundary, from a plug-in's numbers)

@@ -1,8 +1,8 @@
 -- The step goes by plans, so it is lawful and steady (crates/runs): what is to be seen is that a plan pays for the digit that it holds. And why it stops.
-use Rattle.whole.proofs.Laws.{_≡_, refl, _⊎_, inl, inr, Option, none, some, ℕ, suc, _+_, _≤_, arith, ltb, within?}
+use Rattle.whole.proofs.Laws.{_≡_, refl, false, _⊎_, inl, inr, Option, none, some, ℕ, suc, _+_, _≤_, arith, ltb, within?}
 use Rattle.plane.proofs.Laws.{cancelOf}
 use Rattle.runs.proofs.Laws.{Supply, Deed, nothing, cost, Halting, Lawful, Steady, Each, EachStop, took-x, gave, Always, each-test, follow-halts, stop-test, Cheap, planned-lawful, steady-always}
-use Rattle.states.proofs.Laws.{Held, Nothing, Digit, State, Stop, InputUsed, NotADigit, RangeLeft, loaded, given, absorbed, heldCount, endNumber}
+use Rattle.states.proofs.Laws.{Held, Nothing, Digit, State, Stop, InputUsed, NotADigit, NoRoom, RangeLeft, loaded, given, absorbed, heldCount, endNumber, refused?}
 use Rattle.steps.specs.Step.{Setting, chosen, givenMatrix, absorbedMatrix, heldPlan, planBy, plan, plain}
 
 abbrev held : State → ℕ
@@ -22,21 +22,30 @@ cheap y s Nothing e = λ b. each-test (Costs 0) (took-x b) (ltb b (y .input .cou
 cheap y s (Digit h) e = held-cheap y s h (chosen y s h) e
 
 -- why a step stops: one of document 01's four ends, and never a refusal
-abbrev pub StepEnd : Stop → Type 0
-StepEnd e = (endNumber e ≡ 0) ⊎ ((20 ≤ endNumber e) × (endNumber e ≤ 22))
+pub record StepEnd (e : Stop) : Type 0 where
+  pub number : (endNumber e ≡ 0) ⊎ ((20 ≤ endNumber e) × (endNumber e ≤ 22))
+  pub not-refused : refused? e ≡ false
 
-held-stops : (y : Setting) (s : State) (h : ℕ) (o : Option ℕ) → EachStop StepEnd (heldPlan y s h o)
-unfolding EachStop
-held-stops y s h (some b) = let t = given s (cancelOf (givenMatrix (y .output) s b)) in (inr (omega arith, omega arith), stop-test StepEnd (within? 1000000000 (t .matrix)) t RangeLeft (inr (omega arith, omega arith)))
-held-stops y s h none = let t = absorbed s (cancelOf (absorbedMatrix (y .input) s h)) in stop-test StepEnd (within? 1000000000 (t .matrix)) t RangeLeft (inr (omega arith, omega arith))
+-- with which words: what holds of the four holds of every stop
+module _ (R : Stop → Type 0) (used : R InputUsed) (no-digit : R NotADigit) (no-room : R NoRoom) (left : R RangeLeft) where
+  held-stops : (y : Setting) (s : State) (h : ℕ) (o : Option ℕ) → EachStop R (heldPlan y s h o)
+  unfolding EachStop
+  held-stops y s h (some b) = let t = given s (cancelOf (givenMatrix (y .output) s b)) in (no-room, stop-test R (within? 1000000000 (t .matrix)) t RangeLeft left)
+  held-stops y s h none = let t = absorbed s (cancelOf (absorbedMatrix (y .input) s h)) in stop-test R (within? 1000000000 (t .matrix)) t RangeLeft left
 
-plan-stops : (y : Setting) (s : State) (h : Held) → EachStop StepEnd (planBy y s h)
-unfolding EachStop
-plan-stops y s Nothing = (inl refl, λ b. stop-test StepEnd (ltb b (y .input .count)) (loaded s b) NotADigit (inr (omega arith, omega arith)))
-plan-stops y s (Digit h) = held-stops y s h (chosen y s h)
+  plan-stops : (y : Setting) (s : State) (h : Held) → EachStop R (planBy y s h)
+  unfolding EachStop
+  plan-stops y s Nothing = (used, λ b. stop-test R (ltb b (y .input .count)) (loaded s b) NotADigit no-digit)
+  plan-stops y s (Digit h) = held-stops y s h (chosen y s h)
+
+  pub stops-with : (y : Setting) (s : State) (r : Supply) → Halting R (plain y .step s r)
+  stops-with y s r = follow-halts R (plan y s) (plan-stops y s (s .held)) r
 
 pub step-stops : (y : Setting) (s : State) (r : Supply) → Halting StepEnd (plain y .step s r)
-step-stops y s r = follow-halts StepEnd (plan y s) (plan-stops y s (s .held)) r
+step-stops = stops-with StepEnd (record { number = inl refl; not-refused = refl }) (between refl (omega arith) (omega arith)) (between refl (omega arith) (omega arith)) (between refl (omega arith) (omega arith))
+  where
+    between : {e : Stop} → refused? e ≡ false → 20 ≤ endNumber e → endNumber e ≤ 22 → StepEnd e
+    between r h k = record { number = inr (h, k); not-refused = r }
 
 pub lawful : (y : Setting) → Lawful (plain y)
 lawful y = planned-lawful (λ s r. plan y s) held InputUsed (λ s r. cheap y s (s .held) refl)

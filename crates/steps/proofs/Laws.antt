@@ -3,7 +3,7 @@
 -- the step is one of those that crates/runs speaks of
 pub use Rattle.steps.proofs.Lawful.{lawful, steady, StepEnd, step-stops}
 -- what every step keeps; the chosen digit
-pub use Rattle.steps.proofs.Kept.{chosen-below, chosen-fits, Below, below-at, Kept, step-keeps}
+pub use Rattle.steps.proofs.Kept.{chosen-below, chosen-fits, Below, below-both, below-at, Kept, step-keeps}
 -- numbers of digits that a system hasn't got change no step
 pub use Rattle.steps.proofs.SamePlan.{same-plan, step-holds}
 -- the definitions

@@ -1,7 +1,7 @@
 -- "What is kept for the digits a system hasn't got .. no answer depends on it": where two settings have the same digits, a state that holds a digit of the input system,
 -- or none, has the same plan in both. A plan reads the held digit's interval and transformation, the intervals of the output digits and the transformation of the one
 -- that fits: all of these are digits of their systems.
-use Rattle.whole.proofs.Laws.{_≡_, refl, ap, _∙_, List, Option, none, some, ℕ, _≤_, arith, ltb-true, ltb, ℤ, within?}
+use Rattle.whole.proofs.Laws.{_≡_, refl, ap, _∙_, List, Option, none, some, ℕ, _≤_, ltb-true, ltb, ℤ, within?}
 use Rattle.plane.proofs.Laws.{multiplyOf, pseudoinverseOf, imageOf, cancelOf}
 use Rattle.digits.proofs.Laws.{SameDigits}
 use Rattle.fitting.proofs.Laws.{fittingOf, same-fitting}

@@ -1,4 +1,6 @@
 // What the test programs call: each function here makes the calls of one case and prints what was answered.
+ghost use mathlib.Core.Path.{_≡_};
+ghost use Rattle.unary.specs.Run.{runOf};
 use digits::System;
 use states::State;
 
@@ -15,7 +17,9 @@ pub fn opening(m: [i64; 4]) {
 }
 
 // A run. It hands the state on.
-pub fn run(inputs: System, outputs: System, s: State, word: &[u8], room: &mut [u8]) -> State {
+pub fn run(inputs: System, outputs: System, s: State, word: &[u8], room: &mut [u8]) -> State
+    ensures { λ r. ⌜ (r ≡ runOf inputs outputs s (now (word .entry)) (now (room .entry)) .answer .state) × (now (room .exit) ≡ runOf inputs outputs s (now (word .entry)) (now (room .entry)) .output) ⌝ }
+{
     let a = unary::run(inputs, outputs, s, word, room);
     let t = a.state;
     test_output::answer(a);

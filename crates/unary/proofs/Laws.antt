@@ -4,8 +4,6 @@
 pub use Rattle.unary.proofs.Runs.{accepted-again, CourseInRange, course-in-range, AnswerInRange, in-range, written-only, run-accepted, refused-untouched, few-steps, few-steps-free}
 pub use Rattle.unary.proofs.Again.{stops-again, cut-anywhere}
 pub use Rattle.unary.proofs.SameRun.{same-course, same-run}
--- no second answer fits
-pub use Rattle.unary.proofs.OneAnswer.{RunPromise, one-run}
 -- the definitions
 pub use Rattle.unary.specs.Run.{Ran}
 unfoldable pub use Rattle.unary.specs.Run.{courseOf, runOf, stepsOf}

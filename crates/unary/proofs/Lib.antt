@@ -2,12 +2,10 @@
 --   Runs        in-range, written-only, refused-untouched, few-steps
 --   Again       a stopped run stops again; a run may be cut anywhere, in its input and in its room
 --   SameRun     numbers of digits that a system hasn't got change no run
---   OneAnswer   no second answer fits
 --   Turn        for the loop: a turn of it is a step of the run
 -- The folders prove the functions of src/lib.rt, each by its name.
 mod Runs
 mod Again
 mod SameRun
-mod OneAnswer
 mod Turn
 pub mod Laws

@@ -35,20 +35,23 @@ pub record CourseInRange (a b : System) (s : State) (input : List ℕ) (room : �
   pub digits : Below (b .count) (q .did .digits)
   pub state : refusalOf (setting a b) s ≡ 0 → StateRules (a .count) (q .state)
   pub stop : StepEnd (q .stop) ⊎ RefusalNumber (endNumber (q .stop))
+  pub ended : refusalOf (setting a b) s ≡ 0 → StepEnd (q .stop)
   pub steps : q .steps + 2 * length (q .did .y) ≤ cost (q .did) + heldCount (s .held)
 
 module _ (a b : System) (s : State) (input : List ℕ) where
   pub course-in-range : (room : ℕ) → CourseInRange a b s input room (courseOf a b s input room)
   unfolding courseOf
   course-in-range room = either (plain y) Refused (refusalOf y) s r (CourseInRange a b s input room)
-      (λ e. let g = runs (lawful y) s r in record {
+      (λ e. let g = runs (lawful y) s r in
+      let end = subst (Halting StepEnd) (last-step (lawful y) g) (step-stops y (run (plain y) s r .state) (spend (run (plain y) s r .did) r)) in record {
         pays = paid (lawful y) g;
         digits = run-keeps y s r e .digits;
         state = λ z. run-keeps y s r e .state;
-        stop = inl (subst (Halting StepEnd) (last-step (lawful y) g) (step-stops y (run (plain y) s r .state) (spend (run (plain y) s r .did) r)));
+        stop = inl end;
+        ended = λ z. end;
         steps = omega (arith, every.few-steps (lawful y) g, within (paid (lawful y) g) .1);
       })
-      (λ n e. record { pays = nothing-pays r; digits = tt; state = λ z. absurd (omega (arith, z, e)); stop = inr (by n e (refusal-number y s)); steps = omega arith })
+      (λ n e. record { pays = nothing-pays r; digits = tt; state = λ z. absurd (omega (arith, z, e)); stop = inr (by n e (refusal-number y s)); ended = λ z. absurd (omega (arith, z, e)); steps = omega arith })
     where
       y : Setting
       y = setting a b
@@ -68,6 +71,7 @@ pub record AnswerInRange (a b : System) (s : State) (inp out : List ℕ) (r : Ra
   pub unwritten : drop (r .answer .written .0) (r .output) ≡ drop (r .answer .written .0) out
   pub state : refusalOf (setting a b) s ≡ 0 → StateRules (a .count) (r .answer .state)
   pub stop : StepEnd (r .answer .stop) ⊎ RefusalNumber (endNumber (r .answer .stop))
+  pub ended : refusalOf (setting a b) s ≡ 0 → StepEnd (r .answer .stop)
 
 module _ (a b : System) (s : State) (inp out : List ℕ) where
   pub in-range : AnswerInRange a b s inp out (runOf a b s inp out)
@@ -83,6 +87,7 @@ module _ (a b : System) (s : State) (inp out : List ℕ) where
         unwritten = behind-unchanged (q .did .digits) out;
         state = c .state;
         stop = c .stop;
+        ended = c .ended;
       }
 
   -- "Bytes of the output beyond the written ones are unchanged."

@@ -1,5 +1,5 @@
--- The test of a claim, which computes, and the law that a claim which passes its test holds: one law for each of the five kinds.
-use Rattle.whole.proofs.Laws.{_≡_, refl, Bool, true, not, false≢true, List, [], _∷_, ℕ, eqb-true, not-true, eqb, length, take, ℤ, pos, ltZ, lt-true}
+-- The test of a claim, which computes, and the law that a claim which passes its test holds: one law for each of the seven kinds.
+use Rattle.whole.proofs.Laws.{_≡_, refl, Bool, true, not, false≢true, List, [], _∷_, ℕ, eqb-true, not-true, eqb, length, take, replicate, ℤ, pos, ltZ, lt-true}
 use Rattle.plane.proofs.Laws.{det, left, right, Interval}
 use Rattle.inclusion.proofs.Laws.{closed?, included?, included-says, not-included-says, closed-says}
 use Rattle.digits.proofs.Laws.{systemOf}
@@ -7,7 +7,11 @@ use Rattle.admission.proofs.Laws.{refusalNumber, admitted-says}
 use Rattle.states.proofs.Laws.{Nothing, endNumber}
 use Rattle.opening.proofs.Laws.{Opening, Opens, OutOfRange, NotAbove, Start, openingNumber, openOf, opens}
 use Rattle.unary.proofs.Laws.{Ran}
-use Rattle.worked.specs.Claims.{Job, Ending, judgedOf, ranOf, IsIncluded, EndsOnly, IsOpened, IsJudged, IsEnded, Claim, included, ends-only, opening, judged, ended, Says}
+use Rattle.text.specs.Text.{bytesOf}
+use Rattle.printed.specs.Text.{printed}
+use Prim.Native.String.{String}
+use Rattle.worked.specs.Claims.{Job, Ending, judgedOf, ranOf, divisorsOf, fileOf, IsIncluded, EndsOnly, IsOpened, IsJudged, IsEnded, IsCancelled, IsPrinted}
+use Rattle.worked.specs.Claims.{Claim, included, ends-only, opening, judged, ended, cancelled, prints, Says}
 use Rattle.worked.proofs.Same.{sameNumber?, same-number, sameList?, same-list, sameHeld?, same-held, all?, each}
 
 -- ---- intervals
@@ -99,6 +103,19 @@ ended-holds j e t =
       held = same-held (ranOf j .answer .state .held) (e .held) (q .1 .1 .1 .0);
     }
 
+cancelled-holds : (j : Job) (ds : List ℕ) → sameList? eqb (divisorsOf j) ds ≡ true → IsCancelled j ds
+cancelled-holds j ds t = record { divisors = same-list eqb eqb-true (divisorsOf j) ds t }
+
+-- ---- a job's file
+
+abbrev printsTests : Job → ℕ → String → List Bool
+printsTests j bytes lines = eqb (length (fileOf j)) bytes ∷ sameList? eqb (printed (fileOf j) (replicate (j .room) 0)) (bytesOf lines) ∷ []
+
+prints-holds : (j : Job) (bytes : ℕ) (lines : String) → all? (printsTests j bytes lines) ≡ true → IsPrinted j bytes lines
+prints-holds j bytes lines t =
+    let p = each (printsTests j bytes lines) t in
+    record { size = eqb-true (length (fileOf j)) bytes (p .0); text = same-list eqb eqb-true (printed (fileOf j) (replicate (j .room) 0)) (bytesOf lines) (p .1 .0) }
+
 -- ---- any claim
 
 abbrev pub passes? : Claim → Bool
@@ -107,6 +124,8 @@ passes? (ends-only i j) = all? (endsTests i j)
 passes? (opening m number x) = all? (openingTests (openOf m) number x)
 passes? (judged rows number) = eqb (refusalNumber (judgedOf rows)) number
 passes? (ended j e) = all? (endedTests (openOf (j .matrix)) (ranOf j) e)
+passes? (cancelled j ds) = sameList? eqb (divisorsOf j) ds
+passes? (prints j bytes lines) = all? (printsTests j bytes lines)
 
 pub holds : (c : Claim) → passes? c ≡ true → Says c
 holds (included i j) t = included-holds i j t
@@ -114,3 +133,5 @@ holds (ends-only i j) t = ends-hold i j t
 holds (opening m number x) t = opening-holds m number x t
 holds (judged rows number) t = judged-holds rows number t
 holds (ended j e) t = ended-holds j e t
+holds (cancelled j ds) t = cancelled-holds j ds t
+holds (prints j bytes lines) t = prints-holds j bytes lines t

@@ -10,6 +10,13 @@ use Rattle.fitting.proofs.Laws.{fittingOf}
 use Rattle.judging.proofs.Laws.{state?, refusalOf}
 use Rattle.unary.proofs.Laws.{courseOf, runOf}
 use Rattle.opening.proofs.Laws.{openOf}
+use Rattle.sections.specs.Section.{presence, numberOf}
+use Rattle.job_sections.specs.Sections.{signed, numbersIn}
+use Rattle.jobs.specs.Reading.{readingOf, readOf}
+use Rattle.text.specs.Number.{digitsBy, decimal, signedText}
+use Rattle.state_line.specs.StateLine.{heldText, stateLine}
+use Rattle.lines.specs.Lines.{countsLine, digitsLine, answerText}
+use Rattle.printed.specs.Text.{printed}
 use mathlib.Core.Logic.{⊎-elim}
 use Rattle.worked.specs.Claims.{Claim, Says, Member}
 use Rattle.worked.specs.Table.{table}
@@ -28,6 +35,7 @@ passed (d ∷ ds) e c k =
 computed : allPass? table ≡ true
 unfolding gcdBy gcd gcd4 apply determinantOf pseudoinverseOf multiplyOf imageOf cancelOf closed? same? included? first fourAt within? rowVerdict rowsVerdict
     admissionOf systemOf state? openOf unlessRefused transformationAt intervalAt fittingOf follow runBy run refusalOf judgedRun courseOf runOf
+    presence numberOf signed numbersIn readingOf readOf digitsBy decimal signedText heldText stateLine countsLine digitsLine answerText printed
 computed = refl
 
 -- Document 01's worked examples, P1 to P12 and its other runs, are true of the definitions.

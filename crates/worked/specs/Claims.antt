@@ -1,9 +1,11 @@
--- What a worked example can claim, and what each claim says. There are five kinds: an interval is included in another; it is not, though both its ends lie there; a
--- matrix opens, or is refused; a system is admitted, or is refused; a job ends in a stated way. Where document 01 has a sentence for an answer, the claim says that too.
+-- What a worked example can claim, and what each claim says. There are seven kinds: an interval is included in another; it is not, though both its ends lie
+-- there; a matrix opens, or is refused; a system is admitted, or is refused; a job ends in a stated way; its steps were cancelled by stated divisors; its file
+-- has so many bytes and prints a stated text. Where document 01 has a sentence for an answer, the claim says that too.
 use mathlib.Core.Path.{_≡_}
 use mathlib.Core.List.{List, [], _∷_}
 use mathlib.Core.Logic.{_⊎_}
-use Prim.Native.Nat.{ℕ}
+use Prim.Native.Nat.{ℕ, zero, suc}
+use Prim.Native.String.{String}
 use lib.ListN.{length, take, replicate}
 use lib.IntN.{ℤ}
 use Rattle.plane.specs.Plane.{left, right, Interval, Closed}
@@ -12,11 +14,18 @@ use Rattle.admission.specs.Admission.{refusalNumber, admissionOf}
 use Rattle.admission.specs.Admitted.{SystemCase}
 use Rattle.digits.specs.BuiltIn.{systemOf}
 use Rattle.admission.specs.Types.{Admission}
-use Rattle.states.specs.Types.{Held, Nothing}
+use Rattle.runs.specs.Supply.{Supply, spend}
+use Rattle.runs.specs.Machine.{Outcome, goes, halts, mostSteps}
+use Rattle.states.specs.Types.{Held, Nothing, State, Stop}
+use Rattle.steps.specs.Step.{Setting, setting, plain, oneWord}
 use Rattle.opening.specs.Types.{Opens}
 use Rattle.states.specs.State.{endNumber}
 use Rattle.opening.specs.Opening.{openingNumber, openOf, OpeningCase}
 use Rattle.unary.specs.Run.{Ran, runOf}
+use Rattle.meaning.specs.Moments.{divisorOf}
+use Rattle.job_sections.specs.Layout.{layoutOf}
+use Rattle.text.specs.Text.{bytesOf}
+use Rattle.printed.specs.Text.{printed}
 
 -- a job: two systems as tables of rows, a matrix, a word, and the room that is given for the output
 pub record Job : Type 0 where
@@ -41,6 +50,27 @@ judgedOf rows = admissionOf (systemOf rows)
 -- the run of a job, from the state that its matrix opens as
 abbrev pub ranOf : Job → Ran
 ranOf j = runOf (systemOf (j .input)) (systemOf (j .output)) (openOf (j .matrix) .state) (j .word) (replicate (j .room) 0)
+
+-- the divisors by which the steps of a run are cancelled, in their order (`divisorOf`, crates/meaning/specs: where a byte is taken in it is 1)
+abbrev pub divisorsAfter : (State → Supply → List ℕ) → Setting → State → Supply → Outcome State Stop → List ℕ
+divisorsAfter more y s r (goes t d) = divisorOf y s d ∷ more t (spend d r)
+divisorsAfter more y s r (halts e) = []
+
+-- of at most k steps
+abbrev pub divisorsBy : Setting → ℕ → State → Supply → List ℕ
+divisorsBy y zero s r = []
+divisorsBy y (suc k) s r = divisorsAfter (divisorsBy y k) y s r (plain y .step s r)
+
+abbrev pub divisorsOf : Job → List ℕ
+divisorsOf j =
+    let y = setting (systemOf (j .input)) (systemOf (j .output)) in
+    let s = openOf (j .matrix) .state in
+    let r = oneWord (j .word) (j .room) in
+    divisorsBy y (suc (mostSteps (plain y) s r)) s r
+
+-- the job's file
+abbrev pub fileOf : Job → List ℕ
+fileOf j = layoutOf (record { input = systemOf (j .input); output = systemOf (j .output); matrix = j .matrix; word = j .word })
 
 -- ---- what each claim says
 
@@ -80,6 +110,15 @@ pub record IsEnded (j : Job) (e : Ending) : Type 0 where
   pub matrix : ranOf j .answer .state .matrix ≡ e .matrix
   pub held : ranOf j .answer .state .held ≡ e .held
 
+-- the steps of the job's run were cancelled by these divisors
+pub record IsCancelled (j : Job) (ds : List ℕ) : Type 0 where
+  pub divisors : divisorsOf j ≡ ds
+
+-- the job's file has so many bytes, and the program prints this text of it, with the job's room
+pub record IsPrinted (j : Job) (bytes : ℕ) (lines : String) : Type 0 where
+  pub size : length (fileOf j) ≡ bytes
+  pub text : printed (fileOf j) (replicate (j .room) 0) ≡ bytesOf lines
+
 -- ---- a row of the table
 
 pub data Claim : Type 0 where
@@ -88,6 +127,8 @@ pub data Claim : Type 0 where
   opening : List ℤ → ℕ → List ℤ → Claim
   judged : List (List ℤ) → ℕ → Claim
   ended : Job → Ending → Claim
+  cancelled : Job → List ℕ → Claim
+  prints : Job → ℕ → String → Claim
 
 abbrev pub Says : Claim → Type 0
 Says (included i j) = IsIncluded i j
@@ -95,6 +136,8 @@ Says (ends-only i j) = EndsOnly i j
 Says (opening m number x) = IsOpened m number x
 Says (judged rows number) = IsJudged rows number
 Says (ended j e) = IsEnded j e
+Says (cancelled j ds) = IsCancelled j ds
+Says (prints j bytes lines) = IsPrinted j bytes lines
 
 -- a row of a table
 abbrev pub Member : Claim → List Claim → Type 0

@@ -1,12 +1,12 @@
--- Document 01, "Runs and tests to hold it against": P1 to P12, its two runs of D to R, and the two identity digits. Every number here is document 01's; where it leaves
--- one out (the matrix of P7 and P12, the room of every run but P5) it is that of the job of P4, whose room is the program's.
+-- Document 01, "Runs and tests to hold it against": P1 to P12, its two runs of D to R, and the two identity digits. Every number here is document 01's;
+-- where it leaves one out (the matrix of P7 and P12, the room of every run but P5) it is that of the job of P4, whose room is the program's.
 use mathlib.Core.List.{List, [], _∷_}
 use Prim.Native.Nat.{ℕ, zero, suc}
 use lib.ListN.{take}
 use lib.IntN.{ℤ, pos}
 use Rattle.digits.specs.BuiltIn.{minus, row, rowsR, rowsB, rowsD}
 use Rattle.states.specs.Types.{Held, Nothing, Digit}
-use Rattle.worked.specs.Claims.{Job, Ending, Claim, included, ends-only, opening, judged, ended}
+use Rattle.worked.specs.Claims.{Job, Ending, Claim, included, ends-only, opening, judged, ended, cancelled, prints}
 
 -- four numbers: a matrix a b c d, or an interval x0 x1 y0 y1
 abbrev pub four : ℤ → ℤ → ℤ → ℤ → List ℤ
@@ -40,12 +40,16 @@ table =
     -- "P4 the job above": R to R, matrix 2 1 1 2, word 0 0 1, with the program's room
     ended (job rowsR rowsR (four (pos 2) (pos 1) (pos 1) (pos 2)) (0 ∷ 0 ∷ 1 ∷ []) 8192)
     (ends 0 3 (0 ∷ 1 ∷ 1 ∷ []) (four (pos 2) (pos 1) (pos 1) (pos 2)) Nothing) ∷
+    -- "Input R, output R, matrix 2 1 1 2, word 0 0 1 (147 bytes) prints": the three lines
+    prints (job rowsR rowsR (four (pos 2) (pos 1) (pos 1) (pos 2)) (0 ∷ 0 ∷ 1 ∷ []) 8192) 147 "0 3 3\n2 1 1 2 -\n0 1 1\n" ∷
     -- "P5 the same with room 2: end 20, taken 3, written 0 1, X 3 0 1 1, held 1."
     ended (job rowsR rowsR (four (pos 2) (pos 1) (pos 1) (pos 2)) (0 ∷ 0 ∷ 1 ∷ []) 2)
     (ends 20 3 (0 ∷ 1 ∷ []) (four (pos 3) (pos 0) (pos 1) (pos 1)) (Digit 1)) ∷
     -- "P6 B to B, M 1 0 0 1, word 1: output 1, X back at 1 0 0 1 after a 2 is cancelled."
     ended (job rowsB rowsB (four (pos 1) (pos 0) (pos 0) (pos 1)) (1 ∷ []) 8192)
     (ends 0 1 (1 ∷ []) (four (pos 1) (pos 0) (pos 0) (pos 1)) Nothing) ∷
+    -- the steps that took the 1 in, gave the 1 out and absorbed the 1 were cancelled by 1, by 1 and by the 2
+    cancelled (job rowsB rowsB (four (pos 1) (pos 0) (pos 0) (pos 1)) (1 ∷ []) 8192) (1 ∷ 1 ∷ 2 ∷ []) ∷
     -- "P7 R to R, first byte 4: end 21, counts 0 and 0."
     ended (job rowsR rowsR (four (pos 2) (pos 1) (pos 1) (pos 2)) (4 ∷ 0 ∷ []) 8192)
     (ends 21 0 [] (four (pos 2) (pos 1) (pos 1) (pos 2)) Nothing) ∷

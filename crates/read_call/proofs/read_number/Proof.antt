@@ -1,6 +1,6 @@
 -- `read_call::read_number` meets its contract: the lengths, and then the two verdicts.
 use Rattle.whole.proofs.Laws.{needs, _≡_, sym, ap, true, not-true, not-false}
-use Rattle.read_call.specs.ReadCall.{verdictNumber, readLengths?}
+use Rattle.read_call.specs.ReadCall.{callNumber, readLengths?}
 use Rattle.read_call.proofs.read_number.Statement.{statement}
 use Rattle.read_call.proofs.read_number.Tie as tie
 
@@ -12,5 +12,5 @@ right c = not-false _ (c .if1 .left)
 
 pub read-number-spec : {M : Type 1} → statement M
 read-number-spec = tie.close (tie.spec returns (λ c. search needs) (λ c. search needs) (λ c. search needs) (λ c. search needs) (λ c. search needs)
-    (λ c. search needs) (λ c. rw (right (c .before .before)) (sym (ap verdictNumber (c .enum-told .given .1))))
-    (λ c. rw (right (c .before .before .before)) (sym (ap verdictNumber (c .before .v .given .1)))))
+    (λ c. search needs) (λ c. rw (right (c .before .before)) (sym (ap callNumber (c .enum-told .given .1))))
+    (λ c. rw (right (c .before .before .before)) (sym (ap callNumber (c .before .v .given .1)))))

@@ -1,0 +1,95 @@
+-- "That no second answer fits is itself proved": whatever two answers keep a function's promise, with whatever they leave in what they were lent, they are the same.
+-- Each promise is an equation with one value, which both answers then are (`one`). First the library's functions, then the C functions; a function of ours that is handed
+-- lent rows promises the same of the system that they are (`admission_of`, `run_lent`), so it is the same theorem.
+use Rattle.whole.proofs.Laws.{_≡_, sym, ap, _∙_, List, _++_, ℕ, ℤ, drop}
+use Rattle.digits.proofs.Laws.{System, systemOf}
+use Rattle.admission.specs.Types.{Admission}
+use Rattle.admission.proofs.Laws.{admissionOf, refusalNumber}
+use Rattle.states.proofs.Laws.{State, Stop, endNumber}
+use Rattle.steps.proofs.Laws.{Setting}
+use Rattle.opening.proofs.Laws.{Opening, Start, openingNumber, openingOf, openOf}
+use Rattle.judging.proofs.Laws.{refusalOf}
+use Rattle.unary.proofs.Laws.{Answer, runOf}
+use Rattle.jobs.proofs.Laws.{Reading, readOf}
+use Rattle.printed.specs.Text.{printed}
+use Rattle.printed.specs.Responds.{Responds}
+use Rattle.numbers.proofs.Laws.{wrote, handedOut}
+use Rattle.open_call.proofs.Laws.{openCall}
+use Rattle.run_call.proofs.Laws.{AfterRun, runCall}
+use Rattle.read_call.proofs.Laws.{AfterRead, readCall}
+use Rattle.plugin.specs.Calls.{admitNumber}
+
+one : {A : Type 0} {value r r′ : A} → r ≡ value → r′ ≡ value → r ≡ r′
+one p q = p ∙ sym q
+
+-- ---- the library's functions
+
+-- system_r, system_b, system_d
+pub one-system : (table : List (List ℤ)) (s s′ : System) → s ≡ systemOf table → s′ ≡ systemOf table → s ≡ s′
+one-system table s s′ = one
+
+-- admit, admission_of
+pub one-admission : (s : System) (r r′ : Admission) → r ≡ admissionOf s → r′ ≡ admissionOf s → r ≡ r′
+one-admission s r r′ = one
+
+-- refusal_number, opening_number, end_number
+pub one-refusal-number : (v : Admission) (r r′ : ℕ) → r ≡ refusalNumber v → r′ ≡ refusalNumber v → r ≡ r′
+one-refusal-number v r r′ = one
+
+pub one-opening-number : (v : Opening) (r r′ : ℕ) → r ≡ openingNumber v → r′ ≡ openingNumber v → r ≡ r′
+one-opening-number v r r′ = one
+
+pub one-end-number : (e : Stop) (r r′ : ℕ) → r ≡ endNumber e → r′ ≡ endNumber e → r ≡ r′
+one-end-number e r r′ = one
+
+-- opening_of, open
+pub one-judgement : (m : List ℤ) (r r′ : Opening) → r ≡ openingOf m → r′ ≡ openingOf m → r ≡ r′
+one-judgement m r r′ = one
+
+pub one-opening : (m : List ℤ) (r r′ : Start) → r ≡ openOf m → r′ ≡ openOf m → r ≡ r′
+one-opening m r r′ = one
+
+-- judging::refusal
+pub one-refusal : (y : Setting) (s : State) (r r′ : ℕ) → r ≡ refusalOf y s → r′ ≡ refusalOf y s → r ≡ r′
+one-refusal y s r r′ = one
+
+-- run, run_lent: the answer, and the output afterwards
+abbrev pub RunPromise : System → System → State → List ℕ → List ℕ → Answer → List ℕ → Type 0
+RunPromise a b s input output r new = (r ≡ runOf a b s input output .answer) × (new ≡ runOf a b s input output .output)
+
+pub one-run : (a b : System) (s : State) (input output : List ℕ) (r r′ : Answer) (new new′ : List ℕ) →
+    RunPromise a b s input output r new → RunPromise a b s input output r′ new′ → (r ≡ r′) × (new ≡ new′)
+one-run a b s input output r r′ new new′ p q = (one (p .0) (q .0), one (p .1) (q .1))
+
+-- read
+pub one-reading : (file : List ℕ) (r r′ : Reading) → r ≡ readOf file → r′ ≡ readOf file → r ≡ r′
+one-reading file r r′ = one
+
+-- respond: how many bytes, the buffer afterwards, and the room for the digits afterwards
+pub one-response : (file room old room₁ room₂ new₁ new₂ : List ℕ) (r₁ r₂ : ℕ) →
+    Responds file room room₁ old new₁ r₁ → Responds file room room₂ old new₂ r₂ → (r₁ ≡ r₂) × (new₁ ≡ new₂) × (room₁ ≡ room₂)
+one-response file room old room₁ room₂ new₁ new₂ r₁ r₂ p q =
+    let size = one (p .size) (q .size) in
+    (size, p .text ∙ ap (λ (n : ℕ). printed file room ++ drop n old) size ∙ sym (q .text), one (p .digits) (q .digits))
+
+-- ---- the C functions: the number, and whatever is written
+
+pub one-sled-admit : (rows : List ℤ) (r r′ : ℕ) → r ≡ admitNumber rows → r′ ≡ admitNumber rows → r ≡ r′
+one-sled-admit rows r r′ = one
+
+-- sled_system_r, sled_system_b, sled_system_d
+pub one-sled-system : (table : List (List ℤ)) (old : List ℤ) (r r′ : ℕ) (new new′ : List ℤ) →
+    wrote r new ≡ handedOut table old → wrote r′ new′ ≡ handedOut table old → wrote r new ≡ wrote r′ new′
+one-sled-system table old r r′ new new′ = one
+
+pub one-sled-open : (m old : List ℤ) (r r′ : ℕ) (new new′ : List ℤ) →
+    wrote r new ≡ openCall m old → wrote r′ new′ ≡ openCall m old → wrote r new ≡ wrote r′ new′
+one-sled-open m old r r′ new new′ = one
+
+pub one-sled-run : (input-rows output-rows : List ℤ) (input : List ℕ) (old : List ℤ) (output counts : List ℕ) (x y : AfterRun) →
+    x ≡ runCall input-rows output-rows input old output counts → y ≡ runCall input-rows output-rows input old output counts → x ≡ y
+one-sled-run input-rows output-rows input old output counts x y = one
+
+pub one-sled-read : (file : List ℕ) (input-rows output-rows m : List ℤ) (found : List ℕ) (x y : AfterRead) →
+    x ≡ readCall file input-rows output-rows m found → y ≡ readCall file input-rows output-rows m found → x ≡ y
+one-sled-read file input-rows output-rows m found x y = one

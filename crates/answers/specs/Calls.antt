@@ -1,0 +1,86 @@
+-- What the C functions can answer, and what stands in the lent numbers behind a call. Where a call answers no 0, and a run no end, they are as they were, the
+-- two counts of a refused run apart.
+use mathlib.Core.Path.{_≡_}
+use mathlib.Core.List.{List}
+use mathlib.Core.Logic.{_⊎_}
+use Prim.Native.Nat.{ℕ, _+_, _*_, _≤_, _<_}
+use lib.ListN.{length, getD}
+use lib.IntN.{ℤ, pos, negsuc}
+use lib.Signed.{_≤ℤ_, _<ℤ_}
+use Rattle.whole.specs.Range.{at, Within}
+use Rattle.digits.specs.BuiltIn.{joined}
+use Rattle.admission.specs.Admission.{SystemNumber}
+use Rattle.judging.proofs.Laws.{RefusalNumber}
+use Rattle.jobs.specs.Types.{Job}
+use Rattle.numbers.specs.Numbers.{wrongLength, Wrote}
+use Rattle.run_call.specs.RunCall.{AfterRun}
+use Rattle.read_call.specs.ReadCall.{AfterRead, afterRead}
+use Rattle.answers.specs.Numbers.{MatrixNumber, SectionNumber, EndNumber, ZeroOr, OrLength}
+use Rattle.answers.specs.Answers.{JobInRange}
+
+-- sled_admit: 0, 3, 6 to 10, or 40
+abbrev pub AdmitInRange : ℕ → Type 0
+AdmitInRange = OrLength (ZeroOr SystemNumber)
+
+-- sled_system_r, sled_system_b, sled_system_d: 0 and the table's numbers, or 40
+pub record SystemInRange (table : List (List ℤ)) (old : List ℤ) (w : Wrote) : Type 0 where
+  pub number : OrLength (λ n. n ≡ 0) (w .number)
+  pub rows : w .number ≡ 0 → w .numbers ≡ joined table
+  pub untouched : 1 ≤ w .number → w .numbers ≡ old
+
+-- ---- a state's five numbers: entries within ±most, and −1 for nothing held, or a digit that is below the count
+
+pub record HeldInRange (count : ℕ) (z : ℤ) : Type 0 where
+  pub from : negsuc 0 ≤ℤ z
+  pub below : z <ℤ pos count
+
+pub record StateInRange (most count : ℕ) (l : List ℤ) : Type 0 where
+  pub five : length l ≡ 5
+  pub entries : Within most l
+  pub held : HeldInRange count (at l 4)
+
+-- sled_open: 0, 6, 11, or 40; nothing is held, so the fifth number is −1
+pub record OpenInRange (old : List ℤ) (w : Wrote) : Type 0 where
+  pub number : OrLength (ZeroOr MatrixNumber) (w .number)
+  pub state : w .number ≡ 0 → StateInRange 1000 0 (w .numbers)
+  pub untouched : 1 ≤ w .number → w .numbers ≡ old
+
+-- ---- sled_run: 0, 20, 21, 22, or 3, 6 to 10, 12, or 40
+
+-- two counts: "bytes taken, digits written"
+pub record CountsInRange (input output counts : List ℕ) : Type 0 where
+  pub two : length counts ≡ 2
+  pub taken : getD counts 0 0 ≤ length input
+  pub written : getD counts 1 0 ≤ length output
+
+-- of two systems with so many digits, the input, and what was there before
+pub record RunInRange (input-count output-count : ℕ) (input : List ℕ) (old : List ℤ) (output : List ℕ) (r : AfterRun) : Type 0 where
+  pub number : OrLength (λ n. EndNumber n ⊎ RefusalNumber n) (r .number)
+  pub room : length (r .output) ≡ length output
+  pub counts : r .number < wrongLength → CountsInRange input output (r .counts)
+  pub digits : r .number < wrongLength → (p : ℕ) → p < getD (r .counts) 1 0 → getD (r .output) p 0 < output-count
+  pub ended : EndNumber (r .number) → StateInRange 1000000000 input-count (r .state)
+  pub refused : OrLength RefusalNumber (r .number) → (r .state ≡ old) × (r .output ≡ output)
+
+-- ---- sled_read: 0, number + 256 · section, or 40
+
+pub record FileNumber (answer : ℕ) : Type 0 where
+  pub number : ℕ
+  pub section : ℕ
+  pub both : answer ≡ number + 256 * section
+  pub given : SectionNumber section number
+
+-- the job that the numbers stand for: of what is found, the two counts of digits, where the word starts and how long it is
+abbrev pub jobFrom : AfterRead → Job
+jobFrom r = record {
+  input = record { count = getD (r .found) 0 0; rows = r .input-rows };
+  output = record { count = getD (r .found) 1 0; rows = r .output-rows };
+  matrix = r .matrix;
+  word = record { start = getD (r .found) 2 0; length = getD (r .found) 3 0 };
+}
+
+pub record ReadInRange (file : List ℕ) (input-rows output-rows m : List ℤ) (found : List ℕ) (r : AfterRead) : Type 0 where
+  pub number : OrLength (ZeroOr FileNumber) (r .number)
+  pub four : r .number ≡ 0 → length (r .found) ≡ 4
+  pub job : r .number ≡ 0 → JobInRange file (jobFrom r)
+  pub untouched : 1 ≤ r .number → r ≡ afterRead (r .number) input-rows output-rows m found

@@ -1,0 +1,3 @@
+-- What is proved of sessions of plug-ins.
+pub use Rattle.plugin_sessions.proofs.Sessions.{session-state-back, plugin-session, plugin-meaning}
+pub use Rattle.plugin_sessions.proofs.Jobs.{read-opens, sled-read-opens}

@@ -1,0 +1,2 @@
+-- Sessions of plug-ins, as definitions.
+pub mod PluginSession
