@@ -291,6 +291,11 @@ def sessions():
     case_r('again', case_r('end 20', job, [0, 0, 1], 2), [], 0)
     case_r('again', case_r('end 21', job, [0, 9, 1], 4), [9, 1], 2)
     case('again', d, r, case('end 22', d, r, bare(500000001, 0, 0, 1), [3, 1], 2), [1], 2)
+    s = case('end 22, none fits', d, r, bare(500000001, 0, 0, 1), [3, 1], 2)
+    s = case('again, no room', d, r, s, [0, 9], 0)
+    s = case('end 22, a digit fits', r, d, bare(-760000000, -2, 400000000, 1), [0], 2)
+    s = case('again, no room', r, d, s, [9], 0)
+    case('again, other bytes', r, d, s, [9, 1], 1)
     cuts('R to D, cut', r, d, job, [0, 1, 0, 0, 1, 1, 0, 1], 12)
 
 

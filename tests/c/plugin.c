@@ -280,6 +280,22 @@ static void runs(void) {
     }
 }
 
+/* after end 22 the session is over: whatever bytes and room follow, nothing is done; without any room the end is 20 where a digit fits */
+static void after_22(void) {
+    const int64_t state[5] = {-760000000, -2, 400000000, 1, -1};
+    struct lengths n = {32, 32, 5, 1, 2, 2};
+    given(R, 32, D, 32, state, (const uint8_t[]){0, 9, 1}, 3);
+    counted(1, 0);
+    stands(-760000000, -2, 400000000, 1, 0);
+    settled(run(n), 22, "a digit fits, and its state leaves the range", 0);
+    counted(0, 0);
+    for (size_t length = 0; length <= 3; length++)
+        for (size_t room = 0; room <= 3; room++) {
+            n.input = length, n.output = room;
+            settled(run(n), room == 0 ? 20 : 22, "and again, with other bytes and other room", (long)(10 * length + room));
+        }
+}
+
 /* a word fed in pieces of each size gives what the whole word gives */
 static void pieces(void) {
     uint8_t word[60], whole[128], parts[128];
@@ -514,6 +530,7 @@ int main(void) {
     admission();
     opening();
     runs();
+    after_22();
     pieces();
     refusals();
     good_job();

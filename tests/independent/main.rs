@@ -12,6 +12,7 @@ mod running;
 mod self_test;
 mod show;
 mod systems;
+mod trace;
 
 use std::io::{stdin, stdout, BufWriter, Read, Write};
 
@@ -23,6 +24,7 @@ const USAGE: &str = "usage: independent COMMAND [--fault NAME]
   kind N           print what kind of case N is
   kinds            print all kinds with their shares
   show             read one job file, print it in readable form
+  trace            read one job file, print the steps of its run as a table
   faults           print the names of the faults that --fault plants
   self-test        hold this implementation against document 01's examples";
 
@@ -44,6 +46,7 @@ fn main() {
         ["kind", n] => println!("{}", draw_jobs::kind_of(number(n).max(1)).0 .1),
         ["kinds"] => draw_jobs::KINDS.iter().for_each(|kind| println!("{} of {}: {}", kind.0, draw_jobs::SLOTS, kind.1)),
         ["show"] => print(show::readable(&input()).as_bytes()),
+        ["trace"] => print(trace::table(&input()).as_bytes()),
         ["faults"] => faults::FAULTS.iter().for_each(|fault| println!("{}: {}", fault.1, fault.2)),
         ["self-test"] => self_test::all(),
         _ => give_up(USAGE),

@@ -27,7 +27,7 @@ pub fn run(job: &Job, room: usize) -> (u8, Run) {
 }
 
 /// "One step, first line that applies." A stop is an error with its end number; it "leaves the state as it was before that step".
-fn step(job: &Job, room: usize, run: &mut Run) -> Result<(), u8> {
+pub fn step(job: &Job, room: usize, run: &mut Run) -> Result<(), u8> {
     let Some(held) = run.held else { return take_digit(job, run) };
     let row = &job.input[held as usize];
     if planted(Fault::RoomFirst) && run.written.len() >= room {
