@@ -63,7 +63,7 @@ extern "C" {
 enum sled_number {
     SLED_OK = 0,                /* admitted, opened or written; of a run: all the input was taken, nothing is held, and no digit more can be given out */
 
-    /* a run stopped, and may go on: see sled_run */
+    /* a run stopped: sled_run says how to go on, if one can */
     SLED_END_NO_ROOM = 20,      /* the next digit is certain, and the output is full */
     SLED_END_NOT_A_DIGIT = 21,  /* the next byte is no digit of the input system; it was not taken */
     SLED_END_RANGE_LEFT = 22,   /* the next state has an entry outside -1000000000..1000000000; it was not entered */

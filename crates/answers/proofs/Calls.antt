@@ -18,7 +18,7 @@ use Rattle.answers.specs.Numbers.{SectionNumber, ZeroOr, OrLength}
 use Rattle.answers.specs.Answers.{StartInRange, JobInRange, ReadingInRange}
 use Rattle.answers.specs.Calls.{AdmitInRange, SystemInRange, OpenInRange, RunInRange, FileNumber, jobFrom, ReadInRange}
 use Rattle.answers.proofs.Answers.{open-in-range, read-in-range}
-use Rattle.answers.proofs.Runs.{end-apart, state-in-range, ran-in-range}
+use Rattle.answers.proofs.Runs.{end-few, refusal-bounds, state-in-range, ran-in-range}
 
 pub sled-admit-in-range : (rows : List ℤ) → AdmitInRange (admitNumber rows)
 unfolding admitNumber
@@ -60,20 +60,21 @@ sled-open-in-range m old = by (openLengths? m old)
 -- ---- a run
 
 pub sled-run-in-range : (input-rows output-rows : List ℤ) (input : List ℕ) (old : List ℤ) (output counts : List ℕ) →
-    RunInRange (length input-rows / 8) (length output-rows / 8) input old output (runCall input-rows output-rows input old output counts)
+    RunInRange (length input-rows / 8) (length output-rows / 8) input old output counts (runCall input-rows output-rows input old output counts)
 unfolding runCall systemFrom
 sled-run-in-range input-rows output-rows input old output counts = by (runLengths? input-rows output-rows old counts)
   where
-    by : (t : Bool) → RunInRange (length input-rows / 8) (length output-rows / 8) input old output
+    by : (t : Bool) → RunInRange (length input-rows / 8) (length output-rows / 8) input old output counts
         (cond t (ranCall (runOf (systemFrom input-rows) (systemFrom output-rows) (stateFrom old) input output) old) (afterRun wrongLength old output counts))
-    by true = ran-in-range (systemFrom input-rows) (systemFrom output-rows) input old output
+    by true = ran-in-range (systemFrom input-rows) (systemFrom output-rows) input old output counts
     by false = record {
       number = inr refl;
       room = refl;
-      counts = λ h. absurd (omega (arith, h));
-      digits = λ h. absurd (omega (arith, h));
-      ended = λ h. absurd (end-apart h (inr refl));
-      refused = λ h. (refl, refl);
+      two = λ h. absurd (omega (arith, end-few h));
+      digits = λ h. absurd (omega (arith, end-few h));
+      state = λ h. absurd (omega (arith, end-few h));
+      refused = λ h. absurd (omega (arith, refusal-bounds h .1));
+      untouched = λ h. refl;
     }
 
 -- ---- reading

@@ -1,7 +1,7 @@
 -- What the C functions can answer, and what stands in the lent numbers behind a call. Where a call answers no 0, and a run no end, they are as they were, the
 -- two counts of a refused run apart.
 use mathlib.Core.Path.{_≡_}
-use mathlib.Core.List.{List}
+use mathlib.Core.List.{List, [], _∷_}
 use mathlib.Core.Logic.{_⊎_}
 use Prim.Native.Nat.{ℕ, _+_, _*_, _≤_, _<_}
 use lib.ListN.{length, getD}
@@ -10,12 +10,13 @@ use lib.Signed.{_≤ℤ_, _<ℤ_}
 use Rattle.whole.specs.Range.{at, Within}
 use Rattle.digits.specs.BuiltIn.{joined}
 use Rattle.admission.specs.Admission.{SystemNumber}
-use Rattle.judging.proofs.Laws.{RefusalNumber}
+use Rattle.states.specs.State.{EndNumber}
+use Rattle.judging.specs.Refusal.{RefusalNumber}
 use Rattle.jobs.specs.Types.{Job}
 use Rattle.numbers.specs.Numbers.{wrongLength, Wrote}
-use Rattle.run_call.specs.RunCall.{AfterRun}
+use Rattle.run_call.specs.RunCall.{AfterRun, afterRun}
 use Rattle.read_call.specs.ReadCall.{AfterRead, afterRead}
-use Rattle.answers.specs.Numbers.{MatrixNumber, SectionNumber, EndNumber, ZeroOr, OrLength}
+use Rattle.answers.specs.Numbers.{MatrixNumber, SectionNumber, ZeroOr, OrLength}
 use Rattle.answers.specs.Answers.{JobInRange}
 
 -- sled_admit: 0, 3, 6 to 10, or 40
@@ -53,14 +54,17 @@ pub record CountsInRange (input output counts : List ℕ) : Type 0 where
   pub taken : getD counts 0 0 ≤ length input
   pub written : getD counts 1 0 ≤ length output
 
--- of two systems with so many digits, the input, and what was there before
-pub record RunInRange (input-count output-count : ℕ) (input : List ℕ) (old : List ℤ) (output : List ℕ) (r : AfterRun) : Type 0 where
+-- of two systems with so many digits, the input, and what was there before: the state's numbers, the output, the counts
+pub record RunInRange (input-count output-count : ℕ) (input : List ℕ) (old : List ℤ) (output counts : List ℕ) (r : AfterRun) : Type 0 where
   pub number : OrLength (λ n. EndNumber n ⊎ RefusalNumber n) (r .number)
   pub room : length (r .output) ≡ length output
-  pub counts : r .number < wrongLength → CountsInRange input output (r .counts)
-  pub digits : r .number < wrongLength → (p : ℕ) → p < getD (r .counts) 1 0 → getD (r .output) p 0 < output-count
-  pub ended : EndNumber (r .number) → StateInRange 1000000000 input-count (r .state)
-  pub refused : OrLength RefusalNumber (r .number) → (r .state ≡ old) × (r .output ≡ output)
+  -- an end: the counts, the digits, the state
+  pub two : EndNumber (r .number) → CountsInRange input output (r .counts)
+  pub digits : EndNumber (r .number) → (p : ℕ) → p < getD (r .counts) 1 0 → getD (r .output) p 0 < output-count
+  pub state : EndNumber (r .number) → StateInRange 1000000000 input-count (r .state)
+  -- a refusal: counts 0 and 0, and the rest as it was; a wrong length: all as it was
+  pub refused : RefusalNumber (r .number) → r ≡ afterRun (r .number) old output (0 ∷ 0 ∷ [])
+  pub untouched : r .number ≡ wrongLength → r ≡ afterRun wrongLength old output counts
 
 -- ---- sled_read: 0, number + 256 · section, or 40
 

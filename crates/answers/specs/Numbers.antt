@@ -1,8 +1,8 @@
 -- Which numbers are given for what, in document 01's words. (Of a system, "3, 6 to 10": `SystemNumber`, crates/admission/specs. Of a run's systems and state,
--- these and 12: `RefusalNumber`, crates/judging/proofs.)
+-- these and 12: `RefusalNumber`, crates/judging/specs. The ends: `EndNumber`, crates/states/specs.)
 use mathlib.Core.Path.{_≡_}
 use mathlib.Core.Logic.{_⊎_}
-use Prim.Native.Nat.{ℕ, zero, suc, _≤_}
+use Prim.Native.Nat.{ℕ, zero, suc}
 use Rattle.admission.specs.Admission.{SystemNumber}
 use Rattle.numbers.specs.Numbers.{wrongLength}
 
@@ -18,10 +18,6 @@ SectionNumber (suc zero) n = (n ≡ 1) ⊎ SystemNumber n
 SectionNumber (suc (suc zero)) n = (n ≡ 1) ⊎ ((n ≡ 4) ⊎ MatrixNumber n)
 SectionNumber (suc (suc (suc zero))) n = (n ≡ 1) ⊎ ((n ≡ 2) ⊎ (n ≡ 5))
 SectionNumber (suc (suc (suc (suc section)))) n = ⊥
-
--- end 0, 20, 21, 22
-abbrev pub EndNumber : ℕ → Type 0
-EndNumber n = (n ≡ 0) ⊎ ((20 ≤ n) × (n ≤ 22))
 
 -- 0 where nothing is refused
 abbrev pub ZeroOr : (ℕ → Type 0) → ℕ → Type 0

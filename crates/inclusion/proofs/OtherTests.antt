@@ -37,14 +37,14 @@ P1-shut-out = record { fails = refl; included = included-says (record { below = 
 
 -- ---- where the tests differ: l and r, the ends of I are in closed J; e, the ends are the same; u and v, the ends of J are in closed I
 
-pub record Round (l r e u v : Bool) : Type 0 where
+record EndsAnswers (l r e u v : Bool) : Type 0 where
   pub l-in : l ≡ true
   pub r-in : r ≡ true
   pub others : e ≡ false
   pub u-in : u ≡ true
   pub v-in : v ≡ true
 
-round-of : (l r e u v : Bool) → (l && r) ≡ true → (l && r && (e || not u || not v)) ≡ false → Round l r e u v
+round-of : (l r e u v : Bool) → (l && r) ≡ true → (l && r && (e || not u || not v)) ≡ false → EndsAnswers l r e u v
 round-of false r e u v p q = absurd (false≢true p)
 round-of true false e u v p q = absurd (false≢true p)
 round-of true true true u v p q = absurd (true≢false q)
@@ -100,7 +100,7 @@ module _ {i j : List ℤ} (p : Interval i) (q : Interval j) where
       record { lefts = same-says (left-point p) (left-point q) (k .0); rights = same-says (right-point p) (right-point q) (k .1) }
 
   -- both ends of I are in closed J, and it is not included
-  round : WronglyPasses test000 i j → Round (closed? j (left i)) (closed? j (right i)) (same? (left i) (left j) && same? (right i) (right j)) (closed? i (left j)) (closed? i (right j))
+  round : WronglyPasses test000 i j → EndsAnswers (closed? j (left i)) (closed? j (right i)) (same? (left i) (left j) && same? (right i) (right j)) (closed? i (left j)) (closed? i (right j))
   unfolding included?
   round w = round-of _ _ _ _ _ (w .passes) (false-by (included? i j) (λ e. w .not-included (included-says p q e)))
 

@@ -7,7 +7,7 @@ use Rattle.digits.proofs.Laws.{System, Stored}
 use Rattle.admission.proofs.Laws.{Admitted, refusalNumber, admissionOf, SystemNumber, number-0, admission-number, admitted-few, admitted-digits}
 use Rattle.states.proofs.Laws.{Held, Nothing, Digit, State, HeldDigit, StateRules}
 use Rattle.steps.proofs.Laws.{Setting, Usable, Ready}
-use Rattle.judging.specs.Refusal.{heldDigit?, state?, refusalOf}
+use Rattle.judging.specs.Refusal.{heldDigit?, state?, refusalOf, RefusalNumber, Accepted}
 
 -- ---- the test of refusal 12
 
@@ -42,11 +42,6 @@ state-says n s = (to, from)
         (says-held n (s .held) (k .held-digit))
 
 -- ---- nothing is refused
-
-pub record Accepted (y : Setting) (s : State) : Type 0 where
-  pub input : admissionOf (y .input) ≡ Admitted
-  pub output : admissionOf (y .output) ≡ Admitted
-  pub state : StateRules (y .input .count) s
 
 -- the number for the state
 abbrev stateNumber : Bool → ℕ
@@ -89,10 +84,6 @@ accepted-ready y s p q e =
     record { input = usable (y .input) p (a .input); output = usable (y .output) q (a .output); state = a .state }
 
 -- ---- something is refused
-
--- "3, 6 to 10", and 12
-abbrev pub RefusalNumber : ℕ → Type 0
-RefusalNumber n = SystemNumber n ⊎ (n ≡ 12)
 
 either-number : (a b : ℕ) → (a ≡ 0) ⊎ SystemNumber a → (b ≡ 0) ⊎ RefusalNumber b → let n = unlessRefused a (λ n. n) b in (n ≡ 0) ⊎ RefusalNumber n
 unfolding unlessRefused

@@ -1,6 +1,7 @@
 -- What the crates above may use.
 
 -- what is judged before any step
-pub use Rattle.judging.proofs.Judging.{state-says, Accepted, accepted, accepted-ready, RefusalNumber, refusal-number}
+pub use Rattle.judging.proofs.Judging.{state-says, accepted, accepted-ready, refusal-number}
 -- the definitions
 unfoldable pub use Rattle.judging.specs.Refusal.{refusalOf, state?}
+pub use Rattle.judging.specs.Refusal.{RefusalNumber, Accepted}

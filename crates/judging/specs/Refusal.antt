@@ -1,5 +1,7 @@
 -- "A run judges its input system (3, 6 to 10), its output system, then the state (12), before any step."
+use mathlib.Core.Path.{_≡_}
 use mathlib.Core.Bool.{Bool, true, cond, _&&_}
+use mathlib.Core.Logic.{_⊎_}
 use Prim.Native.Nat.{ℕ}
 use lib.Dec.{ltb}
 use lib.IntN.{pos}
@@ -8,8 +10,10 @@ use Rattle.whole.specs.Refusal.{unlessRefused}
 use Rattle.plane.specs.Plane.{determinantOf}
 use Rattle.whole.specs.Range.{within?}
 use Rattle.whole.specs.Divisor.{lowest?}
-use Rattle.admission.specs.Admission.{refusalNumber, admissionOf}
+use Rattle.admission.specs.Types.{Admitted}
+use Rattle.admission.specs.Admission.{refusalNumber, admissionOf, SystemNumber}
 use Rattle.states.specs.Types.{Held, Nothing, Digit, State}
+use Rattle.states.specs.State.{StateRules}
 use Rattle.steps.specs.Step.{Setting}
 
 -- the rules for a state (`StateRules`, crates/states/specs/State.antt) as a test: what refusal 12 is about
@@ -26,3 +30,13 @@ refusalOf y s =
     unlessRefused (refusalNumber (admissionOf (y .input))) (λ n. n)
     (unlessRefused (refusalNumber (admissionOf (y .output))) (λ n. n)
     (cond (state? (y .input .count) s) 0 12))
+
+-- "3, 6 to 10", and 12
+abbrev pub RefusalNumber : ℕ → Type 0
+RefusalNumber n = SystemNumber n ⊎ (n ≡ 12)
+
+-- nothing is refused
+pub record Accepted (y : Setting) (s : State) : Type 0 where
+  pub input : admissionOf (y .input) ≡ Admitted
+  pub output : admissionOf (y .output) ≡ Admitted
+  pub state : StateRules (y .input .count) s

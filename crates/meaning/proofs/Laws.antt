@@ -2,5 +2,5 @@
 
 pub use Rattle.meaning.proofs.Sessions.{session-admitted, session-moment, session-sound, session-product, session-named, session-numbers, session-scale, moment-product, moment-named, moment-numbers, moment-scale, call-moment, call-product, call-named, call-numbers, newly-opened, called-again, called-by-contract}
 pub use Rattle.meaning.proofs.Claims.{of-the}
-pub use Rattle.meaning.proofs.ToCome.{GoesOn, output-to-come, to-come-within-a-call, to-come-behind-a-call, session-accepted}
+pub use Rattle.meaning.proofs.ToCome.{output-to-come, to-come-within-a-call, to-come-behind-a-call, session-accepted}
 pub use Rattle.meaning.proofs.Moments.{Sound, Meant, onward-means, moment-means, plan-is}

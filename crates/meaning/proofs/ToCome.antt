@@ -12,7 +12,7 @@ use Rattle.steps.proofs.Laws.{Setting, setting, plain, oneWord, lawful}
 use Rattle.opening.proofs.Laws.{openOf, opened-rules}
 use Rattle.judging.proofs.Laws.{refusalOf, accepted}
 use Rattle.unary.proofs.Laws.{courseOf, accepted-again}
-use Rattle.meaning.specs.Session.{Calls, none, called, Session, ToCome, During}
+use Rattle.meaning.specs.Session.{Calls, none, called, Session, ToCome, During, Continues}
 use Rattle.meaning.specs.Moments.{Onward, here, stepped, Moment}
 use Rattle.meaning.proofs.Moments.{Sound, onward-means, opened-sound}
 use Rattle.meaning.proofs.Claims.{meant-to-come}
@@ -26,21 +26,13 @@ onward-onward {y} {o} {x = x} {g = g} first (stepped {taken} {given} {u = u} {d 
     subst (λ (l : List ℕ). Onward y o l (g ++ (given ++ d .digits)) u) (append-assoc x taken (d .x))
     (subst (λ (l : List ℕ). Onward y o ((x ++ taken) ++ d .x) l u) (append-assoc g given (d .digits)) (stepped (onward-onward first steps) line supply e))
 
--- a run q that goes on from where the run p stood: what it took and gave out in between
-pub record GoesOn (p q : Course State Stop) (Between : State → List ℕ → List ℕ → State → Type 0) : Type 0 where
-  pub bytes : List ℕ
-  pub digits : List ℕ
-  pub taken : p .did .x ++ bytes ≡ q .did .x
-  pub given : p .did .digits ++ digits ≡ q .did .digits
-  pub between : Between (p .state) bytes digits (q .state)
-
 module _ {y : Setting} (inputs : Digits (y .input)) (outputs : Digits (y .output)) where
-  stays : (q : Course State Stop) → GoesOn q q (Onward y)
+  stays : (q : Course State Stop) → Continues q q (Onward y)
   stays q = record { bytes = []; digits = []; taken = append-nil (q .did .x); given = append-nil (q .did .digits); between = here }
 
   -- granted n steps in the place of k: by the first step, and then by what follows it
-  step-goes-on : (k n : ℕ) (s : State) (r : Supply) → ((t : State) (d : Deed) → plain y .step s r ≡ goes t d → GoesOn (runBy (plain y) k t (spend d r)) (runBy (plain y) n t (spend d r)) (Onward y)) →
-      (v : Outcome State Stop) → plain y .step s r ≡ v → GoesOn (after (runBy (plain y) k) s r v) (after (runBy (plain y) n) s r v) (Onward y)
+  step-goes-on : (k n : ℕ) (s : State) (r : Supply) → ((t : State) (d : Deed) → plain y .step s r ≡ goes t d → Continues (runBy (plain y) k t (spend d r)) (runBy (plain y) n t (spend d r)) (Onward y)) →
+      (v : Outcome State Stop) → plain y .step s r ≡ v → Continues (after (runBy (plain y) k) s r v) (after (runBy (plain y) n) s r v) (Onward y)
   step-goes-on k n s r follows (goes t d) e =
       let more = follows t d e in
       let p = runBy (plain y) k t (spend d r) in
@@ -53,7 +45,7 @@ module _ {y : Setting} (inputs : Digits (y .input)) (outputs : Digits (y .output
       }
   step-goes-on k n s r follows (halts w) e = stays (stopped w s)
 
-  goes-on : (k n : ℕ) → k ≤ n → (s : State) (r : Supply) → Sound y s → GoesOn (runBy (plain y) k s r) (runBy (plain y) n s r) (Onward y)
+  goes-on : (k n : ℕ) → k ≤ n → (s : State) (r : Supply) → Sound y s → Continues (runBy (plain y) k s r) (runBy (plain y) n s r) (Onward y)
   unfolding runBy
   goes-on zero n h s r sound =
       let q = runBy (plain y) n s r in
@@ -63,11 +55,11 @@ module _ {y : Setting} (inputs : Digits (y .input)) (outputs : Digits (y .output
       step-goes-on k n s r (λ t d e. goes-on k n (omega arith) t (spend d r) (onward-sound inputs outputs sound (one-more inputs outputs sound here r e))) (plain y .step s r) refl
 
   -- a run that is granted any number of steps, and the run
-  to-the-end : (k : ℕ) (s : State) (r : Supply) → Sound y s → GoesOn (runBy (plain y) k s r) (run (plain y) s r) (Onward y)
+  to-the-end : (k : ℕ) (s : State) (r : Supply) → Sound y s → Continues (runBy (plain y) k s r) (run (plain y) s r) (Onward y)
   unfolding run
   to-the-end k s r sound = elim (eq-zero-or-pos (k - suc (mostSteps (plain y) s r))) [
     | inl h ↦ goes-on k (suc (mostSteps (plain y) s r)) (omega arith) s r sound
-    | inr h ↦ subst (λ (q : Course State Stop). GoesOn q (run (plain y) s r) (Onward y)) (sym (granted (lawful y) (runs (lawful y) s r) k (omega arith))) (stays (run (plain y) s r))
+    | inr h ↦ subst (λ (q : Course State Stop). Continues q (run (plain y) s r) (Onward y)) (sym (granted (lawful y) (runs (lawful y) s r) k (omega arith))) (stays (run (plain y) s r))
   ]
 
 -- ---- no call of a session is refused: each state that is handed back untouched keeps the rules
@@ -101,8 +93,8 @@ output-to-come {a} {b} {m} admitted moment later =
     let sound = onward-sound inputs outputs (opened-sound (setting a b) m (moment .opens)) (moment .steps) in
     meant-to-come (onward-means inputs outputs sound later)
 
-goes-as : {p q : Course State Stop} {P Q : State → List ℕ → List ℕ → State → Type 0} (g : GoesOn p q P) →
-    (P (p .state) (g .bytes) (g .digits) (q .state) → Q (p .state) (g .bytes) (g .digits) (q .state)) → GoesOn p q Q
+goes-as : {p q : Course State Stop} {P Q : State → List ℕ → List ℕ → State → Type 0} (g : Continues p q P) →
+    (P (p .state) (g .bytes) (g .digits) (q .state) → Q (p .state) (g .bytes) (g .digits) (q .state)) → Continues p q Q
 goes-as g f = record { bytes = g .bytes; digits = g .digits; taken = g .taken; given = g .given; between = f (g .between) }
 
 module _ {a b : System} {m : List ℤ} {taken given : List ℕ} {s : State} (session : Session a b m taken given s) (input : List ℕ) where
@@ -119,7 +111,7 @@ module _ {a b : System} {m : List ℤ} {taken given : List ℕ} {s : State} (ses
   sound-at moment = onward-sound inputs outputs (opened-sound y m (session .opens)) (moment .steps)
 
   -- both in one call: after k steps of it, and after n
-  pub to-come-within-a-call : (room k n : ℕ) → k ≤ n → GoesOn (runBy (plain y) k s (oneWord input room)) (runBy (plain y) n s (oneWord input room)) (ToCome a b)
+  pub to-come-within-a-call : (room k n : ℕ) → k ≤ n → Continues (runBy (plain y) k s (oneWord input room)) (runBy (plain y) n s (oneWord input room)) (ToCome a b)
   to-come-within-a-call room k n h =
       goes-as (goes-on inputs outputs k n h s (oneWord input room) (sound-at (session-moment session)))
       (output-to-come (session-admitted session) (call-moment session input room k))
@@ -127,14 +119,14 @@ module _ {a b : System} {m : List ℤ} {taken given : List ℕ} {s : State} (ses
   -- after k steps of a call, and behind that call: after any calls more and then n steps of the next
   pub to-come-behind-a-call : (output : List ℕ) (k : ℕ) {x g : List ℕ} {t : State} →
       Calls a b (courseOf a b s input (length output) .state) x g t → (more : List ℕ) (room n : ℕ) →
-      GoesOn (runBy (plain y) k s (oneWord input (length output))) (courseOf a b s input (length output)) (λ u bytes digits v.
+      Continues (runBy (plain y) k s (oneWord input (length output))) (courseOf a b s input (length output)) (λ u bytes digits v.
       During (ToCome a b u) (bytes ++ x) (digits ++ g) (runBy (plain y) n t (oneWord more room)))
   unfolding courseOf
   to-come-behind-a-call output k {x} {g} {t} calls more room n =
       let r = oneWord input (length output) in
       let moment = call-moment session input (length output) k in
       let whole = sym (accepted-run (plain y) Refused (refusalOf y) s r (session-accepted session)) in
-      let on = subst (λ (q : Course State Stop). GoesOn (runBy (plain y) k s r) q (Onward y)) whole (to-the-end inputs outputs k s r (sound-at (session-moment session))) in
+      let on = subst (λ (q : Course State Stop). Continues (runBy (plain y) k s r) q (Onward y)) whole (to-the-end inputs outputs k s r (sound-at (session-moment session))) in
       goes-as on (λ between.
       let behind = onward-onward between (calls-onward (session-admitted session) (sound-at (session-moment (called-again session input output))) calls) in
       output-to-come (session-admitted session) moment (steps-onward inputs outputs (sound-at moment) n (on .bytes ++ x) (on .digits ++ g) t (oneWord more room) behind))

@@ -63,3 +63,11 @@ NumbersHold a b m taken given s = OfTheAbsorbed taken (s .held) (λ absorbed.
 -- a claim on the bytes taken, the digits given out and the state, where a call now stands that began with `taken` and `given`
 abbrev pub During : (List ℕ → List ℕ → State → Type 0) → List ℕ → List ℕ → Course State Stop → Type 0
 During claim taken given q = claim (taken ++ q .did .x) (given ++ q .did .digits) (q .state)
+
+-- a run q that continues the run p, which was granted fewer steps: what it took and gave out besides, and what is said of that
+pub record Continues (p q : Course State Stop) (Between : State → List ℕ → List ℕ → State → Type 0) : Type 0 where
+  pub bytes : List ℕ
+  pub digits : List ℕ
+  pub taken : p .did .x ++ bytes ≡ q .did .x
+  pub given : p .did .digits ++ digits ≡ q .did .digits
+  pub between : Between (p .state) bytes digits (q .state)

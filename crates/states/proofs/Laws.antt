@@ -2,5 +2,5 @@
 
 pub use Rattle.states.proofs.Rules.{cancelled-rules}
 -- the definitions
-pub use Rattle.states.specs.State.{HeldDigit, StateRules, absorbed, endNumber, given, heldCount, loaded, opened, refused?}
+pub use Rattle.states.specs.State.{HeldDigit, StateRules, EndNumber, StepEnd, absorbed, endNumber, given, heldCount, loaded, opened, refused?}
 pub use Rattle.states.specs.Types.{Digit, Held, InputUsed, NoRoom, NotADigit, Nothing, RangeLeft, Refused, State, Stop}

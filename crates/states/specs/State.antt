@@ -2,7 +2,8 @@
 use mathlib.Core.Path.{_≡_}
 use mathlib.Core.Bool.{Bool, true, false}
 use mathlib.Core.List.{List}
-use Prim.Native.Nat.{ℕ, _<_}
+use mathlib.Core.Logic.{_⊎_}
+use Prim.Native.Nat.{ℕ, _<_, _≤_}
 use lib.IntN.{ℤ, pos}
 use lib.Signed.{_<ℤ_}
 use Rattle.whole.specs.Range.{Within}
@@ -62,3 +63,11 @@ refused? NoRoom = false
 refused? NotADigit = false
 refused? RangeLeft = false
 refused? (Refused number) = true
+
+-- the ends of a step: 0, 20, 21, 22, and never a refusal
+abbrev pub EndNumber : ℕ → Type 0
+EndNumber n = (n ≡ 0) ⊎ ((20 ≤ n) × (n ≤ 22))
+
+pub record StepEnd (e : Stop) : Type 0 where
+  pub number : EndNumber (endNumber e)
+  pub not-refused : refused? e ≡ false

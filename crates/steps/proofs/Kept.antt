@@ -6,17 +6,17 @@ use Rattle.plane.proofs.Laws.{imageOf, cancelOf, det-above-multiply, det-above-
 use Rattle.inclusion.proofs.Laws.{included?}
 use Rattle.digits.proofs.Laws.{interval}
 use Rattle.admission.proofs.Laws.{Digits}
-use Rattle.fitting.proofs.Laws.{fitting-below, fitting-fits}
+use Rattle.fitting.proofs.Laws.{fitting-exactly}
 use Rattle.runs.proofs.Laws.{Supply, Deed, nothing, andThen, Going, Each, took-x, gave, follow-each, each-test}
 use Rattle.states.proofs.Laws.{cancelled-rules, Held, Nothing, Digit, State, NotADigit, RangeLeft, loaded, given, absorbed, HeldDigit, StateRules}
 use Rattle.steps.specs.Step.{Setting, chosen, givenMatrix, absorbedMatrix, heldPlan, planBy, plan, plain}
 
 -- the digit that is chosen is one of the output system's, and it fits
 pub chosen-below : (y : Setting) (s : State) (h b : ℕ) → chosen y s h ≡ some b → b < y .output .count
-chosen-below y s h b e = fitting-below (y .output) _ b e
+chosen-below y s h b e = fitting-exactly (y .output) _ (some b) .0 e .0
 
 pub chosen-fits : (y : Setting) (s : State) (h b : ℕ) → chosen y s h ≡ some b → included? (imageOf (s .matrix) (interval (y .input) h)) (interval (y .output) b) ≡ true
-chosen-fits y s h b e = fitting-fits (y .output) _ b e
+chosen-fits y s h b e = fitting-exactly (y .output) _ (some b) .0 e .1
 
 -- ---- digits that are written
 

@@ -1,8 +1,8 @@
 -- The step goes by plans, so it is lawful and steady (crates/runs): what is to be seen is that a plan pays for the digit that it holds. And why it stops.
-use Rattle.whole.proofs.Laws.{_≡_, refl, false, _⊎_, inl, inr, Option, none, some, ℕ, suc, _+_, _≤_, arith, ltb, within?}
+use Rattle.whole.proofs.Laws.{_≡_, refl, false, inl, inr, Option, none, some, ℕ, suc, _+_, _≤_, arith, ltb, within?}
 use Rattle.plane.proofs.Laws.{cancelOf}
 use Rattle.runs.proofs.Laws.{Supply, Deed, nothing, cost, Halting, Lawful, Steady, Each, EachStop, took-x, gave, Always, each-test, follow-halts, stop-test, Cheap, planned-lawful, steady-always}
-use Rattle.states.proofs.Laws.{Held, Nothing, Digit, State, Stop, InputUsed, NotADigit, NoRoom, RangeLeft, loaded, given, absorbed, heldCount, endNumber, refused?}
+use Rattle.states.proofs.Laws.{Held, Nothing, Digit, State, Stop, InputUsed, NotADigit, NoRoom, RangeLeft, loaded, given, absorbed, StepEnd, heldCount, endNumber, refused?}
 use Rattle.steps.specs.Step.{Setting, chosen, givenMatrix, absorbedMatrix, heldPlan, planBy, plan, plain}
 
 abbrev held : State → ℕ
@@ -21,12 +21,7 @@ unfolding Each
 cheap y s Nothing e = λ b. each-test (Costs 0) (took-x b) (ltb b (y .input .count)) (loaded s b) NotADigit (λ k. omega arith)
 cheap y s (Digit h) e = held-cheap y s h (chosen y s h) e
 
--- why a step stops: one of document 01's four ends, and never a refusal
-pub record StepEnd (e : Stop) : Type 0 where
-  pub number : (endNumber e ≡ 0) ⊎ ((20 ≤ endNumber e) × (endNumber e ≤ 22))
-  pub not-refused : refused? e ≡ false
-
--- with which words: what holds of the four holds of every stop
+-- why a step stops: what holds of the four ends holds of every stop
 module _ (R : Stop → Type 0) (used : R InputUsed) (no-digit : R NotADigit) (no-room : R NoRoom) (left : R RangeLeft) where
   held-stops : (y : Setting) (s : State) (h : ℕ) (o : Option ℕ) → EachStop R (heldPlan y s h o)
   unfolding EachStop

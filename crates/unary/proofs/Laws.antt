@@ -1,10 +1,11 @@
 -- What the crates above may use of this one: `use Rattle.unary.proofs.Laws.{..}`.
 
 -- runs
-pub use Rattle.unary.proofs.Runs.{accepted-again, CourseInRange, course-in-range, AnswerInRange, in-range, written-only, run-accepted, refused-untouched, few-steps, few-steps-free}
+pub use Rattle.unary.proofs.Runs.{accepted-again, CourseInRange, course-in-range, in-range, written-only, run-accepted, refused-untouched, few-steps, few-steps-free}
 pub use Rattle.unary.proofs.Again.{stops-again, cut-anywhere}
 pub use Rattle.unary.proofs.SameRun.{same-course, same-run}
 -- the definitions
 pub use Rattle.unary.specs.Run.{Ran}
+pub use Rattle.unary.specs.Ranges.{AnswerInRange}
 unfoldable pub use Rattle.unary.specs.Run.{courseOf, runOf, stepsOf}
 pub use Rattle.unary.specs.Types.{Answer}

@@ -4,15 +4,16 @@
 -- was refused. `written-only`: "Bytes of the output beyond the written ones are unchanged." `few-steps`: a run makes at most 2·taken + written + 1 steps, and one more
 -- where a digit was held at the start. (Without the one more it is false: a run that absorbs a held digit and then finds no byte makes 2 steps, takes nothing and
 -- writes nothing.)
-use Rattle.whole.proofs.Laws.{_≡_, refl, ap, subst, List, _⊎_, inl, inr, ℕ, zero, suc, _+_, _*_, _≤_, _<_, arith, length, getD, drop, List·getD-append}
+use Rattle.whole.proofs.Laws.{_≡_, refl, ap, subst, List, _⊎_, inl, inr, ℕ, zero, suc, _+_, _*_, _≤_, arith, length, drop, List·getD-append}
 use Rattle.digits.proofs.Laws.{System}
 use Rattle.admission.proofs.Laws.{admitted-digits}
 use Rattle.runs.proofs.Laws.{Supply, nothing, spend, Pays, cost, Halting, Course, stopped, run, within, nothing-pays, behind-unchanged, length-written, runs, paid, keeps, last-step, either, accepted-run, refused-run}
-use Rattle.states.proofs.Laws.{Nothing, State, Stop, Refused, StateRules, heldCount, endNumber}
-use Rattle.steps.proofs.Laws.{Setting, setting, plain, oneWord, lawful, StepEnd, step-stops, Below, below-at, Kept, step-keeps}
+use Rattle.states.proofs.Laws.{Nothing, State, Stop, Refused, StateRules, StepEnd, heldCount, endNumber}
+use Rattle.steps.proofs.Laws.{Setting, setting, plain, oneWord, lawful, step-stops, Below, below-at, Kept, step-keeps}
 use Rattle.runs.proofs.Laws as every
 use Rattle.judging.proofs.Laws.{refusalOf, accepted, RefusalNumber, refusal-number}
-use Rattle.unary.specs.Run.{Ran, courseOf, leaves, runOf, stepsOf, runSteps}
+use Rattle.unary.specs.Run.{courseOf, leaves, runOf, stepsOf, runSteps}
+use Rattle.unary.specs.Ranges.{AnswerInRange}
 
 -- ---- a run that is not refused keeps the rules for a state, so the state that it hands back is never refused by the next
 
@@ -62,16 +63,6 @@ module _ (a b : System) (s : State) (input : List ℕ) where
       by : (n : ℕ) → refusalOf y s ≡ suc n → (refusalOf y s ≡ 0) ⊎ RefusalNumber (refusalOf y s) → RefusalNumber (suc n)
       by n e (inl z) = absurd (omega (arith, z, e))
       by n e (inr k) = subst RefusalNumber e k
-
-pub record AnswerInRange (a b : System) (s : State) (inp out : List ℕ) (r : Ran) : Type 0 where
-  pub taken : r .answer .taken .0 ≤ length inp
-  pub written : r .answer .written .0 ≤ length out
-  pub room : length (r .output) ≡ length out
-  pub digits : (p : ℕ) → p < r .answer .written .0 → getD (r .output) p 0 < b .count
-  pub unwritten : drop (r .answer .written .0) (r .output) ≡ drop (r .answer .written .0) out
-  pub state : refusalOf (setting a b) s ≡ 0 → StateRules (a .count) (r .answer .state)
-  pub stop : StepEnd (r .answer .stop) ⊎ RefusalNumber (endNumber (r .answer .stop))
-  pub ended : refusalOf (setting a b) s ≡ 0 → StepEnd (r .answer .stop)
 
 module _ (a b : System) (s : State) (inp out : List ℕ) where
   pub in-range : AnswerInRange a b s inp out (runOf a b s inp out)

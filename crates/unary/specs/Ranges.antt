@@ -1,0 +1,26 @@
+-- The range of what a run answers, and of the bytes that it leaves: "each number it answers inside its stated range, those of a refused state handed back
+-- apart". The theorem `in-range` (proofs/Runs.antt) proves it of every run.
+use mathlib.Core.Path.{_≡_}
+use mathlib.Core.List.{List}
+use mathlib.Core.Logic.{_⊎_}
+use Prim.Native.Nat.{ℕ, _≤_, _<_}
+use lib.ListN.{length, getD, drop}
+use Rattle.digits.specs.Types.{System}
+use Rattle.states.specs.Types.{State}
+use Rattle.states.specs.State.{StateRules, StepEnd, endNumber}
+use Rattle.steps.specs.Step.{setting}
+use Rattle.judging.specs.Refusal.{refusalOf, RefusalNumber}
+use Rattle.unary.specs.Run.{Ran}
+
+pub record AnswerInRange (a b : System) (s : State) (inp out : List ℕ) (r : Ran) : Type 0 where
+  -- bytes taken, digits written
+  pub taken : r .answer .taken .0 ≤ length inp
+  pub written : r .answer .written .0 ≤ length out
+  -- the output is as long as before, what was written are digits of the output system, and behind them nothing changed
+  pub room : length (r .output) ≡ length out
+  pub digits : (p : ℕ) → p < r .answer .written .0 → getD (r .output) p 0 < b .count
+  pub unwritten : drop (r .answer .written .0) (r .output) ≡ drop (r .answer .written .0) out
+  -- an end, or a refusal's number; where nothing is refused, an end, and the state keeps the rules for a state
+  pub stop : StepEnd (r .answer .stop) ⊎ RefusalNumber (endNumber (r .answer .stop))
+  pub ended : refusalOf (setting a b) s ≡ 0 → StepEnd (r .answer .stop)
+  pub state : refusalOf (setting a b) s ≡ 0 → StateRules (a .count) (r .answer .state)
