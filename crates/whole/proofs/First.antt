@@ -1,29 +1,47 @@
 -- The laws of `first`: what a loop meets at each turn (a hit, a miss, the end), what an answer says, and that it looks at nothing else than the numbers that it passes.
-use Rattle.whole.proofs.Base.{_≡_, refl, sym, ap, _∙_, Bool, true, false, cond, none, some, ℕ, zero, suc, _+_, _-_, _<_, _≤_, arith, add-one, ℕ-discrete}
-use native.Mathlib.Nat.{sub-zero}
-use Rattle.whole.specs.First.{first}
+use Rattle.whole.proofs.Base.{_≡_, refl, sym, ap, _∙_, Bool, true, false, cond, _||_, none, some, ℕ, zero, suc, _+_, _-_, _<_, _≤_, arith, add-one, add-zero, ℕ-discrete}
+use native.Mathlib.Nat.{sub-zero, zero-add}
+use Rattle.whole.specs.First.{first, found?}
 
--- ---- a loop that searches, and stands at i: what it will find is what the whole search finds. It begins so, it goes on so where i doesn't pass, and it ends with i
--- where i passes, or with none.
+-- ---- a loop that searches the numbers below n from some place on, and stands at i: what it will find is what the whole search finds. It begins so, it goes on so where i
+-- doesn't pass, and it ends with i where i passes, or with none.
 
-pub record Standing (t : ℕ → Bool) (n i : ℕ) : Type 0 where
-  pub rest : first t n 0 ≡ first t (n - i) i
+pub record StandingFrom (from : ℕ) (t : ℕ → Bool) (n i : ℕ) : Type 0 where
+  pub rest : first t (n - from) from ≡ first t (n - i) i
+
+pub begins-from : {from : ℕ} {t : ℕ → Bool} {n : ℕ} → StandingFrom from t n from
+begins-from = record { rest = refl }
+
+module _ {from : ℕ} {t : ℕ → Bool} {n i : ℕ} (s : StandingFrom from t n i) where
+  pub misses-from : i < n → t i ≡ false → StandingFrom from t n (i + 1)
+  unfolding first
+  misses-from h e = let k : n - i ≡ suc (n - suc i) = omega arith in record { rest = s .rest ∙ rw (k, e, add-one) }
+
+  pub hits-from : i < n → t i ≡ true → first t (n - from) from ≡ some i
+  unfolding first
+  hits-from h e = let k : n - i ≡ suc (n - suc i) = omega arith in s .rest ∙ rw (k, e)
+
+  pub ends-from : n ≤ i → first t (n - from) from ≡ none
+  unfolding first
+  ends-from h = let k : n - i ≡ 0 = omega arith in s .rest ∙ rw k
+
+-- from 0 on
+
+abbrev pub Standing : (ℕ → Bool) → ℕ → ℕ → Type 0
+Standing t n i = StandingFrom 0 t n i
 
 pub begins : {t : ℕ → Bool} {n : ℕ} → Standing t n 0
-begins = record { rest = rw sub-zero }
+begins = begins-from
 
 module _ {t : ℕ → Bool} {n i : ℕ} (s : Standing t n i) where
   pub misses : i < n → t i ≡ false → Standing t n (i + 1)
-  unfolding first
-  misses h e = let k : n - i ≡ suc (n - suc i) = omega arith in record { rest = s .rest ∙ rw (k, e, add-one) }
+  misses h e = misses-from s h e
 
   pub hits : i < n → t i ≡ true → first t n 0 ≡ some i
-  unfolding first
-  hits h e = let k : n - i ≡ suc (n - suc i) = omega arith in s .rest ∙ rw (k, e)
+  hits h e = rw (← (sub-zero n)) (hits-from s h e)
 
   pub ends : n ≤ i → first t n 0 ≡ none
-  unfolding first
-  ends h = let k : n - i ≡ 0 = omega arith in s .rest ∙ rw k
+  ends h = rw (← (sub-zero n)) (ends-from s h)
 
 -- ---- what the answer says: the number found passes, and none before it does
 
@@ -82,6 +100,21 @@ pub none-first : (t : ℕ → Bool) (k i : ℕ) → ((l : ℕ) → i ≤ l → l
 unfolding first
 none-first t zero i f = refl
 none-first t (suc k) i f = rw (f i (omega arith) (omega arith)) (none-first t k (suc i) (λ l u v. f l (omega arith) (omega arith)))
+
+-- ---- a search parted in two finds something where one of its parts does
+
+pub found-split : (t : ℕ → Bool) (m k i : ℕ) → found? (first t (m + k) i) ≡ (found? (first t m i) || found? (first t k (i + m)))
+unfolding first
+found-split t zero k i = rw (zero-add k, add-zero i)
+found-split t (suc m) k i =
+    let e : suc m + k ≡ suc (m + k) = omega arith in
+    let f : i + suc m ≡ suc i + m = omega arith in
+    rw (e, f) (by (t i) (found-split t m k (suc i)))
+  where
+    by : (b : Bool) → found? (first t (m + k) (suc i)) ≡ (found? (first t m (suc i)) || found? (first t k (suc i + m))) →
+        found? (cond b (some i) (first t (m + k) (suc i))) ≡ (found? (cond b (some i) (first t m (suc i))) || found? (first t k (suc i + m)))
+    by true rest = refl
+    by false rest = rest
 
 -- ---- two tests that agree on the numbers passed find the same
 

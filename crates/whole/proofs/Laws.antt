@@ -23,9 +23,11 @@ pub use Rattle.whole.proofs.Machine.{Stands, stored, literal, unsigned,
 pub use Rattle.whole.proofs.Divisor.{gcd-divides-left, gcd-divides-right, gcd-greatest, quot-exact, gcd4-divides, gcd4-greatest, gcd4-zero, gcd4-times}
 pub use Rattle.whole.proofs.Divisor.{Times, Times4, divided-times, up4, down4, one4, reduced, reduced-only}
 -- the first number that passes a test: a loop that searches, and what its answer says
-pub use Rattle.whole.proofs.First.{Standing, begins, misses, hits, ends, Found, first-found, first-none, found-first, none-first, first-same}
+pub use Rattle.whole.proofs.First.{StandingFrom, begins-from, misses-from, hits-from, ends-from, Standing, begins, misses, hits, ends, Found, first-found, first-none, found-first, none-first, found-split, first-same}
 -- "0 passes, else the number decides"
 pub use Rattle.whole.proofs.Refusal.{passed, decided}
+-- lists: a loop that copies numbers, and what makes two lists the same
+pub use Rattle.whole.proofs.Lists.{Copied, copy-none, copy-one, copied, same-list}
 -- the words of the library
 pub use Rattle.whole.proofs.Base.{*ℤ-comm, *ℤ-zero, +ℤ-assoc, +ℤ-comm, +ℤ-idl, +ℤ-idr, +ℤ-invl, Bool, List, List·getD-append, List·getD-eq-default, Option, T, T-not}
 pub use Rattle.whole.proofs.Base.{[], _%_, _&&_, _*_, _*ℤ_, _++_, _+_, _+ℤ_, _-_, _-ℤ_, _/_, _<_, _<ℤ_, _^_, _||_, _↔_, _∙_, _∣_, _∷_, _≡_, _≤_, _≤ℤ_, _⊎_, add-one}

@@ -6,6 +6,7 @@
 --   divisors        Divisor                                            greatest common divisors, lowest terms
 --   searches        First                                              the first number that passes a test, as a loop looks for it
 --   judgements      Refusal                                            0 passes, else the number decides
+--   lists           Lists                                              copied number by number; the same where each number is
 --   to learn from   Worked                                             an example of each way to state a law or a claim
 --   for others      Laws                                               all that the crates above use
 --
@@ -29,4 +30,5 @@ mod Machine
 mod Divisor
 mod First
 mod Refusal
+mod Lists
 mod Worked
