@@ -11,11 +11,12 @@ struct timespec {
 };
 int clock_gettime(int clock, struct timespec *t);
 
-typedef u32 run_call(const i16 *, usize, const i16 *, usize, i64 *, usize, const u8 *, usize, u8 *, usize, usize *, usize);
-typedef u32 admit_call(const i16 *, usize);
+typedef u32 run_call(usize, const i16 *, usize, usize, const i16 *, usize, i64 *, usize, const u8 *, usize, u8 *, usize, usize *, usize);
+typedef u32 admit_call(usize, const i16 *, usize);
 
-static u32 proved_run(const i16 *ins, usize n, const i16 *outs, usize m, i64 *state, usize s, const u8 *input, usize length, u8 *output, usize room, usize *counts, usize c) {
-    return sled_run(ins, n, outs, m, (int64_t *)state, s, input, length, output, room, counts, c);
+static u32 proved_run(usize ins, const i16 *in_columns, usize n, usize outs, const i16 *out_columns, usize m, i64 *state, usize s, const u8 *input, usize length, u8 *output,
+                      usize room, usize *counts, usize c) {
+    return sled_run(ins, in_columns, n, outs, out_columns, m, (int64_t *)state, s, input, length, output, room, counts, c);
 }
 
 static double now(void) {
@@ -36,28 +37,27 @@ static u32 any(u32 below) {
 /* ---- systems */
 
 struct system {
-    i16 rows[128];
-    usize length;
+    usize digits;
+    i16 columns[SLED_COLUMNS];
 };
 
-static struct system R, B, D;
+static struct system R = {.digits = SLED_R_DIGITS}, B = {.digits = SLED_B_DIGITS}, D = {.digits = SLED_D_DIGITS};
 
-static void leaf(i16 *row, const i16 *f, int half) {
+static void leaf(struct system *s, int digit, const i16 *f, int half) {
     /* F maps (0, infinity), or (infinity, 0), onto the digit's interval */
-    for (int k = 0; k < 4; k++) row[k] = f[k];
-    i16 ends[4] = {0, 1, 1, 0};
+    i16 row[SLED_ROW] = {f[0], f[1], f[2], f[3]}, ends[4] = {0, 1, 1, 0};
     if (half == 1) ends[0] = 1, ends[1] = 0, ends[2] = 0, ends[3] = -1;
     for (int e = 0; e < 2; e++) {
         row[4 + 2 * e] = (i16)(f[0] * ends[2 * e] + f[1] * ends[2 * e + 1]);
         row[5 + 2 * e] = (i16)(f[2] * ends[2 * e] + f[3] * ends[2 * e + 1]);
     }
+    for (int j = 0; j < SLED_ROW; j++) s->columns[16 * j + digit] = row[j];
 }
 
 /* Sixteen digits: the two halves of the line are split, eight pieces each, where R's digits would split them, at random. So the word of a number is a path in a tree, and
    words of any length run on. Digits 0 to 7 are those of the half (0, infinity). */
 static struct system random_16(void) {
-    struct system s;
-    s.length = 128;
+    struct system s = {.digits = 16};
     for (int half = 0; half < 2; half++) {
         i16 maps[8][4] = {{1, 0, 0, 1}};
         for (int n = 1; n < 8;) {
@@ -69,7 +69,7 @@ static struct system random_16(void) {
             memcpy(maps[k], low, sizeof low);
             memcpy(maps[n++], high, sizeof high);
         }
-        for (int k = 0; k < 8; k++) leaf(s.rows + 64 * half + 8 * k, maps[k], half);
+        for (int k = 0; k < 8; k++) leaf(&s, 8 * half + k, maps[k], half);
     }
     return s;
 }
@@ -91,7 +91,8 @@ static void round_of(run_call *run, const struct job *j, u8 *out, usize *counts,
     usize taken = 0, written = 0, ends = 0;
     for (usize k = 0; k < j->calls; k++) {
         usize c[2], give = j->length * (k + 1) - taken;
-        u32 end = run(j->ins->rows, j->ins->length, j->outs->rows, j->outs->length, state, 5, word + taken, give, out + written, ROOM - written, c, 2);
+        u32 end = run(j->ins->digits, j->ins->columns, SLED_COLUMNS, j->outs->digits, j->outs->columns, SLED_COLUMNS, state, 5, word + taken, give, out + written,
+                      ROOM - written, c, 2);
         taken += c[0];
         written += c[1];
         if (end == 22) {
@@ -153,7 +154,7 @@ static void time_admit(const char *name, const struct system *s, int rounds) {
         for (int side = 0; side < 2; side++) {
             double start = now();
             u32 total = 0;
-            for (int k = 0; k < 1000; k++) total += calls[side](s->rows, s->length);
+            for (int k = 0; k < 1000; k++) total += calls[side](s->digits, s->columns, SLED_COLUMNS);
             double time = now() - start;
             sum[side] = total;
             if (time < best[side]) best[side] = time;
@@ -180,7 +181,8 @@ static void word_of(const struct system *s) {
     memcpy(state, one, sizeof one);
     usize from = 0;
     while (filled < LONG && from < LONG) {
-        u32 end = plain_run(R.rows, R.length, s->rows, s->length, state, 5, source + from, LONG - from, word + filled, LONG - filled, counts, 2);
+        u32 end = plain_run(R.digits, R.columns, SLED_COLUMNS, s->digits, s->columns, SLED_COLUMNS, state, 5, source + from, LONG - from, word + filled, LONG - filled, counts,
+                            2);
         from += counts[0];
         filled += counts[1];
         if (end == 22) memcpy(state, one, sizeof one);
@@ -191,10 +193,9 @@ static void word_of(const struct system *s) {
 
 int main(int argc, char **argv) {
     int rounds = argc > 1 && argv[1][0] == 'q' ? 30 : 300;
-    R.length = D.length = 32, B.length = 64;
-    sled_system_r(R.rows, 32);
-    sled_system_b(B.rows, 64);
-    sled_system_d(D.rows, 32);
+    sled_system_r(R.columns, SLED_COLUMNS);
+    sled_system_b(B.columns, SLED_COLUMNS);
+    sled_system_d(D.columns, SLED_COLUMNS);
     printf("| case | plain C | proved | unit | proved / plain |\n|---|---|---|---|---|\n");
     random_word(2);
     time_run("R to R, 2 1 1 2, long word", &(struct job){&R, &R, {2, 1, 1, 2}, LONG, 1}, rounds);

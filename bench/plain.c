@@ -2,6 +2,9 @@
    sled_run. Nothing is proved of it. bench/run times both and holds their answers against each other. */
 #include "plain.h"
 
+/* Number j of digit k stands at 16 * j + k. Here is where each column starts; from a digit's a on, its other numbers are as far away. */
+enum { A = 0, B = 16, C = 32, D = 48, X0 = 64, X1 = 80, Y0 = 96, Y1 = 112, COLUMNS = 128 };
+
 static inline u64 magnitude(i64 a) { return a < 0 ? 0 - (u64)a : (u64)a; }
 
 static inline u64 gcd(u64 a, u64 b) {
@@ -27,52 +30,82 @@ static inline int apart(i64 p, i64 q) { return p < 0 ? q >= 0 : p > 0 ? q <= 0 :
 
 /* ---- admission */
 
-static int row_number(const i16 *r) {
-    if (!within(r[0], r[1], r[2], r[3], 100) || !within(r[4], r[5], r[6], r[7], 100)) return 6;
-    if (r[0] * r[3] - r[1] * r[2] <= 0) return 7;
-    if (r[4] * r[7] - r[5] * r[6] >= 0) return 8;
-    if (gcd_of_4(r[0], r[1], r[2], r[3]) != 1) return 9;
-    if (gcd(magnitude(r[4]), magnitude(r[5])) != 1 || gcd(magnitude(r[6]), magnitude(r[7])) != 1) return 9;
+/* of one digit: `f` points at its a */
+static u32 digit_number(const i16 *f) {
+    if (!within(f[A], f[B], f[C], f[D], 100) || !within(f[X0], f[X1], f[Y0], f[Y1], 100)) return 6;
+    if (f[A] * f[D] - f[B] * f[C] <= 0) return 7;
+    if (f[X0] * f[Y1] - f[X1] * f[Y0] >= 0) return 8;
+    if (gcd_of_4(f[A], f[B], f[C], f[D]) != 1) return 9;
+    if (gcd(magnitude(f[X0]), magnitude(f[X1])) != 1 || gcd(magnitude(f[Y0]), magnitude(f[Y1])) != 1) return 9;
     return 0;
 }
 
-/* some interval holds the right end (y0, y1) and does not end there too */
-static int gone_on(const i16 *rows, usize n, i64 y0, i64 y1) {
-    for (usize b = 0; b < n; b++) {
-        const i16 *w = rows + 8 * b + 4;
-        i64 s = w[2] * y1 - w[3] * y0;
-        if (s != 0 && apart(w[0] * y1 - w[1] * y0, s)) return 1;
+/* some interval, of the digits from one on to another, holds the right end (y0, y1) and does not end there too */
+static int gone_on(usize from, usize to, const i16 *columns, i64 y0, i64 y1) {
+    const i16 *u0 = columns + X0, *u1 = columns + X1, *v0 = columns + Y0, *v1 = columns + Y1;
+    for (usize b = from; b < to; b++) {
+        i64 s = v0[b] * y1 - v1[b] * y0;
+        if (s != 0 && apart(u0[b] * y1 - u1[b] * y0, s)) return 1;
     }
     return 0;
 }
 
-static int rows_number(const i16 *rows, usize n) {
-    if (n == 0 || n > 16) return 3;
-    for (usize a = 0; a < n; a++) {
-        int number = row_number(rows + 8 * a);
+static u32 system_number(usize digits, const i16 *columns) {
+    if (digits == 0 || digits > 16) return 3;
+    for (usize a = 0; a < digits; a++) {
+        u32 number = digit_number(columns + a);
         if (number != 0) return number;
     }
-    for (usize a = 0; a < n; a++)
-        if (!gone_on(rows, n, rows[8 * a + 6], rows[8 * a + 7])) return 10;
+    for (usize a = 0; a < digits; a++) { /* the digits behind a first: most systems are written in the order of the line */
+        i64 y0 = columns[Y0 + a], y1 = columns[Y1 + a];
+        if (!gone_on(a + 1, digits, columns, y0, y1) && !gone_on(0, a, columns, y0, y1)) return 10;
+    }
     return 0;
 }
 
-u32 plain_admit(const i16 *rows, usize length) {
-    if (length % 8 != 0) return 40;
-    return rows_number(rows, length / 8);
+u32 plain_admit(usize digits, const i16 *columns, usize length) {
+    if (length != COLUMNS) return 40;
+    return system_number(digits, columns);
 }
 
 /* ---- a run */
 
-static inline int included(i64 x0, i64 x1, i64 y0, i64 y1, const i16 *u) {
-    i64 p = x0 * u[1] - x1 * u[0];
-    i64 q = x0 * u[3] - x1 * u[2];
+/* the interval from x to y is included in the one from u to v */
+static inline int included(i64 x0, i64 x1, i64 y0, i64 y1, i64 u0, i64 u1, i64 v0, i64 v1) {
+    i64 p = x0 * u1 - x1 * u0;
+    i64 q = x0 * v1 - x1 * v0;
     if (!apart(p, q)) return 0;
-    i64 r = y0 * u[1] - y1 * u[0];
-    i64 s = y0 * u[3] - y1 * u[2];
+    i64 r = y0 * u1 - y1 * u0;
+    i64 s = y0 * v1 - y1 * v0;
     if (!apart(r, s)) return 0;
     if (p == 0 && s == 0) return 1;
     return !(apart(p, r) && apart(q, s));
+}
+
+/* The smallest digit whose interval includes X times that of the held digit `f`, or `digits` where none does. Of the output system it reads the four columns of W alone. */
+static inline usize fitting(const i64 *x, const i16 *f, usize digits, const i16 *columns) {
+    const i16 *u0 = columns + X0, *u1 = columns + X1, *v0 = columns + Y0, *v1 = columns + Y1;
+    i64 x0 = x[0] * f[X0] + x[1] * f[X1], x1 = x[2] * f[X0] + x[3] * f[X1];
+    i64 y0 = x[0] * f[Y0] + x[1] * f[Y1], y1 = x[2] * f[Y0] + x[3] * f[Y1];
+    usize b = 0;
+    while (b < digits && !included(x0, x1, y0, y1, u0[b], u1[b], v0[b], v1[b])) b++;
+    return b;
+}
+
+/* giving digit `g` out: its pseudoinverse times X */
+static inline void give_out(i64 *z, const i64 *x, const i16 *g) {
+    z[0] = g[D] * x[0] - g[B] * x[2];
+    z[1] = g[D] * x[1] - g[B] * x[3];
+    z[2] = g[A] * x[2] - g[C] * x[0];
+    z[3] = g[A] * x[3] - g[C] * x[1];
+}
+
+/* absorbing digit `f`: X times its map */
+static inline void absorb(i64 *z, const i64 *x, const i16 *f) {
+    z[0] = x[0] * f[A] + x[1] * f[C];
+    z[1] = x[0] * f[B] + x[1] * f[D];
+    z[2] = x[2] * f[A] + x[3] * f[C];
+    z[3] = x[2] * f[B] + x[3] * f[D];
 }
 
 static inline void cancel(i64 *m) {
@@ -83,21 +116,24 @@ static inline void cancel(i64 *m) {
 
 #define RANGE 1000000000
 
-u32 plain_run(const i16 *in_rows, usize in_length, const i16 *out_rows, usize out_length, i64 *state, usize state_length, const u8 *input, usize n, u8 *output, usize room,
-              usize *counts, usize counts_length) {
-    if (in_length % 8 != 0 || out_length % 8 != 0 || state_length != 5 || counts_length != 2) return 40;
-    usize ins = in_length / 8, outs = out_length / 8;
-    counts[0] = 0;
-    counts[1] = 0;
-    int number = rows_number(in_rows, ins);
-    if (number == 0) number = rows_number(out_rows, outs);
+/* what is judged before any step */
+static u32 run_number(usize ins, const i16 *in_columns, usize outs, const i16 *out_columns, const i64 *state) {
+    u32 number = system_number(ins, in_columns);
+    if (number == 0) number = system_number(outs, out_columns);
     if (number != 0) return number;
-    i64 x[4] = {state[0], state[1], state[2], state[3]};
-    i64 held = state[4];
-    if (!within(x[0], x[1], x[2], x[3], RANGE) || x[0] * x[3] - x[1] * x[2] <= 0 || gcd_of_4(x[0], x[1], x[2], x[3]) != 1) return 12;
-    if (held < -1 || held >= (i64)ins) return 12;
+    if (!within(state[0], state[1], state[2], state[3], RANGE) || state[0] * state[3] - state[1] * state[2] <= 0) return 12;
+    if (gcd_of_4(state[0], state[1], state[2], state[3]) != 1 || state[4] < -1 || state[4] >= (i64)ins) return 12;
+    return 0;
+}
+
+u32 plain_run(usize ins, const i16 *in_columns, usize in_length, usize outs, const i16 *out_columns, usize out_length, i64 *state, usize state_length,
+              const u8 *input, usize n, u8 *output, usize room, usize *counts, usize counts_length) {
+    if (in_length != COLUMNS || out_length != COLUMNS || state_length != 5 || counts_length != 2) return 40;
+    counts[0] = counts[1] = 0;
+    u32 end = run_number(ins, in_columns, outs, out_columns, state);
+    if (end != 0) return end;
+    i64 x[4] = {state[0], state[1], state[2], state[3]}, z[4], held = state[4];
     usize i = 0, o = 0;
-    u32 end;
     for (;;) {
         if (held < 0) {
             end = 0;
@@ -106,26 +142,13 @@ u32 plain_run(const i16 *in_rows, usize in_length, const i16 *out_rows, usize ou
             if (input[i] >= ins) break;
             held = input[i++];
         }
-        const i16 *f = in_rows + 8 * held;
-        const i16 *w = f + 4;
-        i64 x0 = x[0] * w[0] + x[1] * w[1], x1 = x[2] * w[0] + x[3] * w[1];
-        i64 y0 = x[0] * w[2] + x[1] * w[3], y1 = x[2] * w[2] + x[3] * w[3];
-        usize b = 0;
-        while (b < outs && !included(x0, x1, y0, y1, out_rows + 8 * b + 4)) b++;
-        i64 z[4];
+        usize b = fitting(x, in_columns + held, outs, out_columns);
         if (b < outs) {
             end = 20;
             if (o == room) break;
-            const i16 *g = out_rows + 8 * b;
-            z[0] = g[3] * x[0] - g[1] * x[2];
-            z[1] = g[3] * x[1] - g[1] * x[3];
-            z[2] = g[0] * x[2] - g[2] * x[0];
-            z[3] = g[0] * x[3] - g[2] * x[1];
+            give_out(z, x, out_columns + b);
         } else {
-            z[0] = x[0] * f[0] + x[1] * f[2];
-            z[1] = x[0] * f[1] + x[1] * f[3];
-            z[2] = x[2] * f[0] + x[3] * f[2];
-            z[3] = x[2] * f[1] + x[3] * f[3];
+            absorb(z, x, in_columns + held);
         }
         cancel(z);
         end = 22;

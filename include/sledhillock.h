@@ -6,14 +6,15 @@
    HOW IT IS USED
 
      1. Have two digit systems, one for the input and one for the output: a built-in one (sled_system_r, sled_system_b, sled_system_d), those of a job file (sled_read),
-        or rows of your own.
+        or one of your own, which you write by rows and which sled_columns turns into columns.
      2. Open a session for a matrix a b c d: sled_open writes a state of five numbers. They are all that is kept between calls; keep them wherever you like.
      3. Call sled_run with some input bytes, one digit a byte, and some room for output, as often as you like. It says how many bytes it took and how many digits it
         wrote. Cut the word and the room as you like: hand what a call did not take and did not fill on to the next, with more, and the digits are those of one call.
 
    WHAT IS PROMISED OF EVERY CALL
 
-     - Test nothing first. Every call is fit for every input: it ends, and what breaks a rule is refused by a number (below). Any numbers may stand in the slices.
+     - Test nothing first. Every call is fit for every input: it ends, and what breaks a rule is refused by a number (below). A count of digits may be any number, and any
+       numbers may stand in the slices.
      - A call writes what is said of it here, and no other byte of yours, ever. It keeps nothing, allocates nothing and prints nothing; it has no state of its own, so
        that any number of threads may call it, each with its own state and buffers.
      - What is said of a call's answer and of what it writes is proved of its code, for all inputs.
@@ -25,10 +26,28 @@
 
    THE NUMBERS
 
-     A SYSTEM is its rows, one behind the other: eight numbers for each digit, a b c d x0 x1 y0 y1. Digit k stands for the map F(x) = (a x + b) / (c x + d) and for the
-     interval W with left end x0/x1 and right end y0/y1 (1/0 is infinity). It has 1 to 16 digits, so a length of 8 to 128 numbers. It is admitted if every number lies
-     in -100..100, a d - b c > 0, x0 y1 - x1 y0 < 0, the four numbers of F have greatest common divisor 1, so have the two of each end, and every point of the line, with
-     infinity, lies in the closed interval of some digit.
+     A SYSTEM has 1 to 16 digits, and each digit eight numbers, a b c d x0 x1 y0 y1: it stands for the map F(x) = (a x + b) / (c x + d) and for the interval W with left
+     end x0/x1 and right end y0/y1 (1/0 is infinity). A system is handed over as its count of digits and its COLUMNS, 128 numbers whatever the count: eight columns of
+     sixteen numbers, one behind the other, first all a, then all b, and so on. Number j (0 to 7) of digit k (0 to 15) stands at 16 * j + k:
+
+            j          digit 0     1     2     3    ..    15
+            0   a            0     1     2     3    ..    15
+            1   b           16    17    18    19    ..    31
+            2   c           32    33    34    35    ..    47
+            3   d           48    49    50    51    ..    63
+            4   x0          64    65    66    67    ..    79
+            5   x1          80    81    82    83    ..    95
+            6   y0          96    97    98    99    ..   111
+            7   y1         112   113   114   115    ..   127
+
+     The places of digits that the system hasn't got are unused. The library writes 0 there; where it reads columns of yours, anything may stand there, and no answer
+     depends on it.
+
+     The same numbers by ROWS, eight numbers of digit 0, then eight of digit 1, and so on, with nothing behind the last: so a person writes a system, and so job files store
+     it. sled_columns turns rows into columns, and sled_rows turns columns into rows.
+
+     A system is admitted if every number of its digits lies in -100..100, a d - b c > 0, x0 y1 - x1 y0 < 0, the four numbers of F have greatest common divisor 1, so have
+     the two of each end, and every point of the line, with infinity, lies in the closed interval of some digit.
 
      A STATE is five numbers: the entries a b c d of a matrix, then the digit that was taken and is not yet absorbed, or -1 if there is none. It keeps the rules if the
      four have greatest common divisor 1, a d - b c > 0, each lies in -1000000000..1000000000, and the fifth is -1 or a digit of the input system. The states that
@@ -88,38 +107,54 @@ enum sled_number {
     SLED_REFUSED_LENGTH = 40    /* a slice has the wrong length */
 };
 
-/* How many numbers stand in a state, in a matrix, in the rows of one digit and in the rows of the built-in systems; how many counts a run writes. */
-enum { SLED_STATE = 5, SLED_MATRIX = 4, SLED_ROW = 8, SLED_R = 32, SLED_B = 64, SLED_D = 32, SLED_COUNTS = 2, SLED_ROWS = 128, SLED_FOUND = 4 };
+/* How many numbers stand in a state, in a matrix, in the row of one digit, in the columns of a system, in the counts of a run and in what sled_read found. */
+enum { SLED_STATE = 5, SLED_MATRIX = 4, SLED_ROW = 8, SLED_COLUMNS = 128, SLED_COUNTS = 2, SLED_FOUND = 4 };
+
+/* How many digits the built-in systems have. */
+enum { SLED_R_DIGITS = 4, SLED_B_DIGITS = 8, SLED_D_DIGITS = 4 };
 
 /* What sled_read answers holds a number and, where it refuses, the section of the file: 0 input system, 1 output system, 2 matrix, 3 word. */
 #define SLED_NUMBER(answer) ((answer) % 256)
 #define SLED_SECTION(answer) ((answer) / 256)
 
 /* Is this system admitted?
-   Answers 0, or the first rule that it breaks: SLED_REFUSED_LENGTH (length is no multiple of 8), SLED_REFUSED_COUNT, then row by row RANGE, MAP, INTERVAL, LOWEST, and
-   at last GAP. Writes nothing. sled_run judges its systems itself: nobody has to ask first. */
-uint32_t sled_admit(const int16_t *rows, size_t length);
+   length has to be SLED_COLUMNS. Answers 0, or the first rule that the system breaks: SLED_REFUSED_LENGTH, SLED_REFUSED_COUNT (digits is 0 or above 16, however large it is),
+   then digit by digit RANGE, MAP, INTERVAL, LOWEST, and at last GAP. Writes nothing. sled_run judges its systems itself: nobody has to ask first. */
+uint32_t sled_admit(size_t digits, const int16_t *columns, size_t length);
 
-/* The rows of a built-in system: R (4 digits, close to continued fractions: the word 1..1 0..0 1..1 .. with runs of a, b, c, .. names [a, b, c, ..]; digits 2 and 3 are for
+/* The columns of a built-in system: R (4 digits, close to continued fractions: the word 1..1 0..0 1..1 .. with runs of a, b, c, .. names [a, b, c, ..]; digits 2 and 3 are for
    negative numbers), B (8 digits, the bimodular system with its maximal cover) and D (4 digits, binary redundant).
-   length has to be SLED_R, SLED_B or SLED_D. Answers 0 and writes all the numbers; or SLED_REFUSED_LENGTH, and writes nothing. */
-uint32_t sled_system_r(int16_t *rows, size_t length);
-uint32_t sled_system_b(int16_t *rows, size_t length);
-uint32_t sled_system_d(int16_t *rows, size_t length);
+   length has to be SLED_COLUMNS. Answers 0 and writes all 128 numbers, 0 in the unused places; or SLED_REFUSED_LENGTH, and writes nothing. Their counts of digits are
+   SLED_R_DIGITS, SLED_B_DIGITS and SLED_D_DIGITS. */
+uint32_t sled_system_r(int16_t *columns, size_t length);
+uint32_t sled_system_b(int16_t *columns, size_t length);
+uint32_t sled_system_d(int16_t *columns, size_t length);
+
+/* Turns rows into columns. The rows are those of rows_length / SLED_ROW digits.
+   Answers SLED_REFUSED_LENGTH if rows_length is no multiple of SLED_ROW or columns_length is not SLED_COLUMNS; then SLED_REFUSED_COUNT if these are 0 digits or more than 16.
+   A refusal writes nothing. Else answers 0 and writes all 128 numbers, 0 in the unused places. The numbers are not judged: sled_admit and sled_run do that. */
+uint32_t sled_columns(const int16_t *rows, size_t rows_length, int16_t *columns, size_t columns_length);
+
+/* Turns columns into rows, as a person reads them.
+   Answers SLED_REFUSED_LENGTH if columns_length is not SLED_COLUMNS or rows_length is not SLED_ROW times digits, as whole numbers: a product that a size_t can't hold is the
+   length of no slice. Then SLED_REFUSED_COUNT if digits is 0 or above 16. A refusal writes nothing. Else answers 0 and writes all rows_length numbers. The unused places are
+   not read, and the numbers are not judged. sled_columns and sled_rows undo each other: rows come back as they were, and columns come back with 0 in the unused places. */
+uint32_t sled_rows(size_t digits, const int16_t *columns, size_t columns_length, int16_t *rows, size_t rows_length);
 
 /* Reads a job file: two systems, a matrix and a word. Four sections in this order, each after its count of two bytes, low byte first: the input system (count of digits, then
    rows of eight signed 16-bit numbers, low byte first), the output system, the matrix (count 4, then a b c d), the word (count 0 to 4096, then one byte a digit).
 
-   input_rows_length and output_rows_length have to be SLED_ROWS, matrix_length SLED_MATRIX and found_length SLED_FOUND. Answers
+   The file stores the systems by rows, and their columns are written. in_length and out_length have to be SLED_COLUMNS, matrix_length SLED_MATRIX and found_length
+   SLED_FOUND. Answers
 
-     0                      input_rows and output_rows are written whole, 0 behind the last digit's row; matrix is written; found[0] is how many digits the input system has,
+     0                      in_columns and out_columns are written whole, 0 in the unused places; matrix is written; found[0] is how many digits the input system has,
                             found[1] how many the output system has, found[2] where the word starts in the file, and found[3] how many digits it has. So what is run is
-                            sled_run(input_rows, SLED_ROW * found[0], output_rows, SLED_ROW * found[1], .., file + found[2], found[3], ..), and sled_open does not refuse
-                            the matrix.
+                            sled_run(found[0], in_columns, SLED_COLUMNS, found[1], out_columns, SLED_COLUMNS, .., file + found[2], found[3], ..), and sled_open does not
+                            refuse the matrix.
      SLED_REFUSED_LENGTH    a length is wrong. Nothing is written.
      any other              SLED_NUMBER(answer) is the refusal: COUNT, RANGE, MAP, INTERVAL, LOWEST, GAP, MATRIX, SHORT, LONG, FOUR or WORD, and SLED_SECTION(answer)
                             the section where it was met. Nothing is written. */
-uint32_t sled_read(const uint8_t *file, size_t file_length, int16_t *input_rows, size_t input_rows_length, int16_t *output_rows, size_t output_rows_length,
+uint32_t sled_read(const uint8_t *file, size_t file_length, int16_t *in_columns, size_t in_length, int16_t *out_columns, size_t out_length,
                    int64_t *matrix, size_t matrix_length, size_t *found, size_t found_length);
 
 /* Opens a session for the matrix a b c d: four numbers in -1000..1000 with a d - b c > 0.
@@ -136,13 +171,14 @@ uint32_t sled_open(const int64_t *matrix, size_t matrix_length, int64_t *state, 
                             the state and answers SLED_END_RANGE_LEFT again; or SLED_END_NO_ROOM, if output_length is 0 and a digit could be given out.
      SLED_REFUSED_..        of the input system (COUNT, RANGE, MAP, INTERVAL, LOWEST, GAP, as sled_admit), then of the output system, then SLED_REFUSED_STATE: counts[0]
                             and counts[1] are 0, and the state and the output are unchanged.
-     SLED_REFUSED_LENGTH    the length of a system is no multiple of 8, state_length is not SLED_STATE or counts_length is not SLED_COUNTS: nothing is written, not even
+     SLED_REFUSED_LENGTH    in_length or out_length is not SLED_COLUMNS, state_length is not SLED_STATE or counts_length is not SLED_COUNTS: nothing is written, not even
                             the counts.
 
    input_length and output_length may be anything, 0 too. A call first judges both systems, so feed long pieces where speed matters. Steps are linear in bytes taken plus
    digits written. */
-uint32_t sled_run(const int16_t *input_rows, size_t input_rows_length, const int16_t *output_rows, size_t output_rows_length, int64_t *state, size_t state_length,
-                  const uint8_t *input, size_t input_length, uint8_t *output, size_t output_length, size_t *counts, size_t counts_length);
+uint32_t sled_run(size_t in_digits, const int16_t *in_columns, size_t in_length, size_t out_digits, const int16_t *out_columns, size_t out_length,
+                  int64_t *state, size_t state_length, const uint8_t *input, size_t input_length, uint8_t *output, size_t output_length,
+                  size_t *counts, size_t counts_length);
 
 #ifdef __cplusplus
 }

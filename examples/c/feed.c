@@ -9,12 +9,12 @@
 int printf(const char *format, ...); /* <stdio.h> */
 
 int main(void) {
-    int16_t r[SLED_R];
+    int16_t r[SLED_COLUMNS];
     int64_t state[SLED_STATE];
     const int64_t matrix[SLED_MATRIX] = {2, 1, 1, 2};
     const uint8_t word[] = {0, 0, 1, 1, 0, 1, 0, 0, 0, 1, 1, 1, 0, 1};
     size_t length = sizeof word, taken = 0;
-    uint32_t end = sled_system_r(r, SLED_R);
+    uint32_t end = sled_system_r(r, SLED_COLUMNS);
     if (end == SLED_OK) end = sled_open(matrix, SLED_MATRIX, state, SLED_STATE);
     if (end != SLED_OK) {
         printf("refused: %u\n", end);
@@ -28,7 +28,7 @@ int main(void) {
         do {
             uint8_t digits[2];
             size_t counts[SLED_COUNTS];
-            end = sled_run(r, SLED_R, r, SLED_R, state, SLED_STATE, word + taken, piece, digits, sizeof digits, counts, SLED_COUNTS);
+            end = sled_run(SLED_R_DIGITS, r, SLED_COLUMNS, SLED_R_DIGITS, r, SLED_COLUMNS, state, SLED_STATE, word + taken, piece, digits, sizeof digits, counts, SLED_COUNTS);
             if (end != SLED_OK && end != SLED_END_NO_ROOM) {
                 printf("stopped: %u\n", end);
                 return 1;

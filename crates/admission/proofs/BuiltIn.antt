@@ -4,7 +4,7 @@
 use Rattle.whole.proofs.Laws.{_≡_, refl, Bool, true, not, _&&_, List, [], _∷_, _++_, not-true, take, ℤ, pos, gcdBy, gcd, gcd4, first, both-true, within?}
 use Rattle.plane.proofs.Laws.{determinantOf}
 use Rattle.inclusion.proofs.Laws.{closed?, same?}
-use Rattle.digits.proofs.Laws.{transformationAt, intervalAt, minus, row, rowsR, rowsD, rowsB, systemOf}
+use Rattle.digits.proofs.Laws.{transformationBy, intervalBy, minus, row, rowsR, rowsD, rowsB, stored, systemOf}
 use Rattle.admission.specs.Types.{Admission, Admitted, WrongCount, Uncovered}
 use Rattle.admission.specs.Admission.{refusalNumber, refused?, rowVerdict, rowsVerdict, admissionOf}
 use Rattle.admission.specs.Admitted.{Admissible}
@@ -15,10 +15,10 @@ use Rattle.admission.proofs.AdmittedSays.{admitted-exactly}
 
 -- the admission of the system that a table of rows is laid out as; and that it is admissible
 abbrev pub admissionOfTable : List (List ℤ) → Admission
-admissionOfTable rs = admissionOf (systemOf rs)
+admissionOfTable rs = admissionOf (systemOf (stored rs))
 
 abbrev pub AdmissibleTable : List (List ℤ) → Type 0
-AdmissibleTable rs = Admissible (systemOf rs)
+AdmissibleTable rs = Admissible (systemOf (stored rs))
 
 -- the same of every table of a list
 abbrev pub passed? : List (List (List ℤ)) → Bool
@@ -32,7 +32,7 @@ Each (rs ∷ tables) = AdmissibleTable rs × Each tables
 table-admissible : (rs : List (List ℤ)) → not (refused? (admissionOfTable rs)) ≡ true → AdmissibleTable rs
 table-admissible rs e =
     let admitted = not-refused (admissionOfTable rs) (not-true (refused? (admissionOfTable rs)) e) in
-    admitted-exactly (systemOf rs) Admitted .0 admitted
+    admitted-exactly (systemOf (stored rs)) Admitted .0 admitted
 
 pub passed-admissible : (tables : List (List (List ℤ))) → passed? tables ≡ true → Each tables
 passed-admissible [] e = tt
@@ -41,7 +41,7 @@ passed-admissible (rs ∷ tables) e =
     (table-admissible rs (p .0), passed-admissible tables (p .1))
 
 pub built-in-admitted : Each (rowsR ∷ rowsD ∷ rowsB ∷ [])
-unfolding admissionOf rowsVerdict rowVerdict within? determinantOf gcd gcd4 gcdBy transformationAt intervalAt first closed? same? systemOf
+unfolding admissionOf rowsVerdict rowVerdict within? determinantOf gcd gcd4 gcdBy transformationBy intervalBy first closed? same? stored
 built-in-admitted = passed-admissible (rowsR ∷ rowsD ∷ rowsB ∷ []) refl
 
 pub r-admitted : AdmissibleTable rowsR
@@ -76,7 +76,7 @@ pub record Judged : Type 0 where
   pub one-digit : admissionOfTable (take 1 rowsR) ≡ Uncovered
 
 pub judged : Judged
-unfolding admissionOf rowsVerdict rowVerdict within? determinantOf gcd gcd4 gcdBy transformationAt intervalAt first closed? same? systemOf
+unfolding admissionOf rowsVerdict rowVerdict within? determinantOf gcd gcd4 gcdBy transformationBy intervalBy first closed? same? stored
 judged = record {
   p11 = refl;
   p11-number = refl;

@@ -5,7 +5,7 @@ pub use Rattle.admission.proofs.AdmittedSays.{admitted-says, admitted-o
 -- the numbers of refusal
 pub use Rattle.admission.proofs.Numbers.{number-0, not-refused, admission-number}
 -- what is kept for digits that a system hasn't got
-pub use Rattle.admission.proofs.UnusedRows.{unused-rows}
+pub use Rattle.admission.proofs.SameDigits.{same-judgement, same-admission}
 -- R, D and B, and single systems
 pub use Rattle.admission.proofs.BuiltIn.{admissionOfTable, AdmissibleTable, passed?, Each, passed-admissible, built-in-admitted, r-admitted, d-admitted, b-admitted, identities, Judged, judged}
 -- the definitions

@@ -13,8 +13,7 @@ use Rattle.whole.specs.Range.{at, within?}
 use Rattle.whole.specs.Divisor.{gcd, lowest?}
 use Rattle.whole.specs.First.{first}
 use Rattle.plane.specs.Plane.{determinantOf}
-use Rattle.digits.specs.Types.{System}
-use Rattle.digits.specs.System.{transformation, interval}
+use Rattle.digits.specs.System.{System, transformation, interval}
 use Rattle.cover.specs.Cover.{covered?}
 use Rattle.admission.specs.Types.{Admission, Admitted, WrongCount, OutOfRange, NotAbove, NotBelow, NotLowest, Uncovered}
 

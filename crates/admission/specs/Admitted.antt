@@ -10,8 +10,7 @@ use lib.Signed.{_≤ℤ_, _<ℤ_}
 use Rattle.whole.specs.Range.{at, Within}
 use Rattle.whole.specs.Divisor.{Divides4}
 use Rattle.plane.specs.Plane.{Pair, Point, determinantOf, Interval}
-use Rattle.digits.specs.Types.{System}
-use Rattle.digits.specs.System.{transformation, interval}
+use Rattle.digits.specs.System.{System, transformation, interval}
 use Rattle.cover.specs.Cover.{Covers}
 use Rattle.admission.specs.Types.{Admission, Admitted, WrongCount, OutOfRange, NotAbove, NotBelow, NotLowest, Uncovered}
 

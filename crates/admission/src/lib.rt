@@ -2,7 +2,7 @@
 // Public: `Admission`, `refusal_number`, `admit`. `admission_of` is for the crates above, which lend a system's numbers as a slice.
 ghost use mathlib.Core.Path.{_≡_};
 ghost use Prim.Native.Nat.{_≤_};
-ghost use Rattle.digits.specs.System.{lent, Stored};
+ghost use Rattle.digits.specs.Orders.{lent, Columns, systemOf};
 ghost use Rattle.admission.specs.Admission.{refusalNumber, rowsVerdict, admissionOf};
 use digits::System;
 
@@ -35,28 +35,31 @@ pub fn refusal_number(v: Admission) -> u8
 }
 
 // "System: row by row 6, 7, 8, 9; then 10."
-fn rows_verdict(n: usize, rows: &[i16]) -> Admission
-    requires { ⌜ (Stored (lent n (now rows))) × (n ≤ 16) ⌝ }
-    ensures { λ r. ⌜ r ≡ rowsVerdict (lent n (now (rows .entry))) ⌝ }
+fn rows_verdict(n: usize, columns: &[i16]) -> Admission
+    requires { ⌜ (Columns (now columns)) × (n ≤ 16) ⌝ }
+    ensures { λ r. ⌜ r ≡ rowsVerdict (lent n (now (columns .entry))) ⌝ }
 {
     let mut a = 0;
     while a < n {
-        let v = row::row_verdict(digits::transformation(rows, a), digits::interval(rows, a));
+        let v = row::row_verdict(
+            digits::transformation(columns, a),
+            digits::interval(columns, a),
+        );
         if refusal_number(v) != 0 {
             return v;
         }
         a += 1;
     }
-    if cover::covered(n, rows) {
+    if cover::covered(n, columns) {
         return Admission::Admitted;
     }
     Admission::Uncovered
 }
 
 // The judgement of a system whose numbers are lent: of as many digits as its count says, unless that is refused.
-pub fn admission_of(count: usize, rows: &[i16]) -> Admission
-    requires { ⌜ Stored (lent count (now rows)) ⌝ }
-    ensures { λ r. ⌜ r ≡ admissionOf (lent count (now (rows .entry))) ⌝ }
+pub fn admission_of(count: usize, columns: &[i16]) -> Admission
+    requires { ⌜ Columns (now columns) ⌝ }
+    ensures { λ r. ⌜ r ≡ admissionOf (lent count (now (columns .entry))) ⌝ }
 {
     if count == 0 {
         return Admission::WrongCount;
@@ -64,13 +67,13 @@ pub fn admission_of(count: usize, rows: &[i16]) -> Admission
     if 16 < count {
         return Admission::WrongCount;
     }
-    rows_verdict(count, rows)
+    rows_verdict(count, columns)
 }
 
 // Whether a system is admitted, and if not, which rule it breaks first. Of any struct at all.
 pub fn admit(s: System) -> Admission
-    ensures { λ r. ⌜ r ≡ admissionOf s ⌝ }
+    ensures { λ r. ⌜ r ≡ admissionOf (systemOf s) ⌝ }
 {
-    let rows = s.rows;
-    admission_of(s.count, &rows)
+    let columns = s.columns;
+    admission_of(s.count, &columns)
 }

@@ -1,14 +1,16 @@
 -- The range of what the C functions answer, and of what they leave in the lent numbers: of wrong lengths 40, and all as it was; else what the library's functions answer, as
 -- numbers.
-use Rattle.whole.proofs.Laws.{_≡_, refl, ap, Bool, true, false, cond, List, inl, inr, ℕ, zero, suc, _≤_, _/_, arith, eqb, length, ℤ, unlessRefused}
+use Rattle.whole.proofs.Laws.{_≡_, refl, ap, Bool, true, false, cond, _&&_, List, inl, inr, ℕ, zero, suc, _*_, _≤_, _/_, arith, leb, length, ℤ, unlessRefused, passed}
 use Rattle.plane.proofs.Laws.{determinantOf, entries}
-use Rattle.digits.proofs.Laws.{joined}
+use Rattle.digits.proofs.Laws.{StoredSystem, systemOf, columnsOf, rowsOf, rows-length, number-in-rows, one-in-columns}
 use Rattle.admission.proofs.Laws.{admissionOf, admission-number}
 use Rattle.opening.proofs.Laws.{openOf}
 use Rattle.job_sections.proofs.Laws.{Bytes}
 use Rattle.jobs.proofs.Laws.{Job, Reading, verdictNumber, verdictSection}
-use Rattle.numbers.proofs.Laws.{wrongLength, wrote, systemFrom, intoExactly, handedOut}
-use Rattle.numbers.specs.Numbers.{rows?, stateFrom}
+use Rattle.numbers.proofs.Laws.{wrongLength, wrote, handedOut}
+use Rattle.numbers.specs.Numbers.{Wrote, columns?, stateFrom}
+use Rattle.columns_call.proofs.Laws.{columns-turned}
+use Rattle.columns_call.specs.ColumnsCall.{turnNumber, columnsLengths?, columnsCall, rowsLengths?, rowsCall}
 use Rattle.open_call.specs.OpenCall.{opened, openLengths?, openCall}
 use Rattle.run_call.specs.RunCall.{afterRun, ranCall, runLengths?, runCall}
 use Rattle.unary.proofs.Laws.{runOf}
@@ -16,31 +18,65 @@ use Rattle.read_call.specs.ReadCall.{callNumber, readLengths?, afterRead, jobNu
 use Rattle.plugin.specs.Calls.{admitted, admitNumber}
 use Rattle.answers.specs.Numbers.{SectionNumber, ZeroOr, OrLength}
 use Rattle.answers.specs.Answers.{StartInRange, JobInRange, ReadingInRange}
-use Rattle.answers.specs.Calls.{AdmitInRange, SystemInRange, OpenInRange, RunInRange, FileNumber, jobFrom, ReadInRange}
+use Rattle.answers.specs.Calls.{AdmitInRange, SystemInRange, TurnNumber, ColumnsInRange, RowsInRange, OpenInRange, RunInRange, FileNumber, jobFrom, ReadInRange}
 use Rattle.answers.proofs.Answers.{open-in-range, read-in-range}
 use Rattle.answers.proofs.Runs.{end-few, refusal-bounds, state-in-range, ran-in-range}
 
-pub sled-admit-in-range : (rows : List ℤ) → AdmitInRange (admitNumber rows)
+pub sled-admit-in-range : (s : StoredSystem) → AdmitInRange (admitNumber s)
 unfolding admitNumber
-sled-admit-in-range rows = by (rows? rows)
+sled-admit-in-range s = by (columns? (s .columns))
   where
-    by : (t : Bool) → AdmitInRange (cond t (admitted (systemFrom rows)) wrongLength)
-    by true = inl (admission-number (admissionOf (systemFrom rows)))
+    by : (t : Bool) → AdmitInRange (cond t (admitted s) wrongLength)
+    by true = inl (admission-number (admissionOf (systemOf s)))
     by false = inr refl
 
-pub sled-system-in-range : (table : List (List ℤ)) (old : List ℤ) → SystemInRange table old (handedOut table old)
-unfolding handedOut intoExactly
-sled-system-in-range table old = by (eqb (length old) (length (joined table)))
+pub sled-system-in-range : (s : StoredSystem) (old : List ℤ) → SystemInRange s old (handedOut s old)
+unfolding handedOut
+sled-system-in-range s old = by (columns? old)
   where
-    by : (t : Bool) → SystemInRange table old (cond t (wrote 0 (joined table)) (wrote wrongLength old))
-    by true = record { number = inl refl; rows = λ e. refl; untouched = λ h. absurd (omega (arith, h)) }
-    by false = record { number = inr refl; rows = λ e. absurd (omega (arith, e)); untouched = λ h. refl }
+    by : (t : Bool) → SystemInRange s old (cond t (wrote 0 (s .columns)) (wrote wrongLength old))
+    by true = record { number = inl refl; columns = λ e. refl; untouched = λ h. absurd (omega (arith, h)) }
+    by false = record { number = inr refl; columns = λ e. absurd (omega (arith, e)); untouched = λ h. refl }
 
 -- what holds where the number is 0 and where it is not
 either-way : {A : Type 0} (P : A → Type 0) {n : ℕ} (refuse : ℕ → A) (next : A) → (n ≡ 0 → P next) → (1 ≤ n → P (refuse n)) → P (unlessRefused n refuse next)
 unfolding unlessRefused
 either-way P {n = zero} refuse next p q = p refl
 either-way P {n = suc n} refuse next p q = q (omega arith)
+
+-- ---- turning a system from one order into the other
+
+turn-number : (lengths : Bool) (digits : ℕ) → TurnNumber (turnNumber lengths digits)
+turn-number false digits = inr refl
+turn-number true digits = by (leb 1 digits && leb digits 16)
+  where
+    by : (t : Bool) → TurnNumber (cond t 0 3)
+    by true = inl (inl refl)
+    by false = inl (inr refl)
+
+pub sled-columns-in-range : (rows old : List ℤ) → ColumnsInRange rows old (columnsCall rows old)
+unfolding columnsCall
+sled-columns-in-range rows old =
+    either-way (ColumnsInRange rows old) (λ n. wrote n old) (wrote 0 (columnsOf rows))
+    (λ e. let t = columns-turned rows old (ap (λ (w : Wrote). w .number) (passed (λ n. wrote n old) (wrote 0 (columnsOf rows)) e)) in
+    record {
+      number = inl (inl refl);
+      columns = λ z. one-in-columns (length rows / 8) (t .few .few) .has rows (record { size = t .whole });
+      untouched = λ h. absurd (omega (arith, h));
+    })
+    (λ h. record { number = turn-number (columnsLengths? rows old) (length rows / 8); columns = λ z. absurd (omega (arith, z, h)); untouched = λ l. refl })
+
+pub sled-rows-in-range : (s : StoredSystem) (old : List ℤ) → RowsInRange s old (rowsCall s old)
+unfolding rowsCall
+sled-rows-in-range s old =
+    either-way (RowsInRange s old) (λ n. wrote n old) (wrote 0 (rowsOf s))
+    (λ e. record {
+      number = inl (inl refl);
+      rows = λ z. record { size = rows-length (8 * s .count) (s .columns) };
+      same = λ z j a h k. number-in-rows (s .count) (s .columns) j a h k;
+      untouched = λ h. absurd (omega (arith, h));
+    })
+    (λ h. record { number = turn-number (rowsLengths? s old) (s .count); rows = λ z. absurd (omega (arith, z, h)); same = λ z. absurd (omega (arith, z, h)); untouched = λ l. refl })
 
 -- ---- opening
 
@@ -59,14 +95,14 @@ sled-open-in-range m old = by (openLengths? m old)
 
 -- ---- a run
 
-pub sled-run-in-range : (input-rows output-rows : List ℤ) (input : List ℕ) (old : List ℤ) (output counts : List ℕ) →
-    RunInRange (length input-rows / 8) (length output-rows / 8) input old output counts (runCall input-rows output-rows input old output counts)
-unfolding runCall systemFrom
-sled-run-in-range input-rows output-rows input old output counts = by (runLengths? input-rows output-rows old counts)
+pub sled-run-in-range : (a b : StoredSystem) (input : List ℕ) (old : List ℤ) (output counts : List ℕ) →
+    RunInRange (a .count) (b .count) input old output counts (runCall a b input old output counts)
+unfolding runCall
+sled-run-in-range a b input old output counts = by (runLengths? a b old counts)
   where
-    by : (t : Bool) → RunInRange (length input-rows / 8) (length output-rows / 8) input old output counts
-        (cond t (ranCall (runOf (systemFrom input-rows) (systemFrom output-rows) (stateFrom old) input output) old) (afterRun wrongLength old output counts))
-    by true = ran-in-range (systemFrom input-rows) (systemFrom output-rows) input old output counts
+    by : (t : Bool) → RunInRange (a .count) (b .count) input old output counts
+        (cond t (ranCall (runOf (systemOf a) (systemOf b) (stateFrom old) input output) old) (afterRun wrongLength old output counts))
+    by true = ran-in-range (systemOf a) (systemOf b) input old output counts
     by false = record {
       number = inr refl;
       room = refl;
@@ -101,12 +137,12 @@ job-numbers k =
       inside = k .inside;
     }
 
-pub sled-read-in-range : (file : List ℕ) → Bytes file → (input-rows output-rows m : List ℤ) (found : List ℕ) →
-    ReadInRange file input-rows output-rows m found (readCall file input-rows output-rows m found)
+pub sled-read-in-range : (file : List ℕ) → Bytes file → (in-columns out-columns m : List ℤ) (found : List ℕ) →
+    ReadInRange file in-columns out-columns m found (readCall file in-columns out-columns m found)
 unfolding readCall
-sled-read-in-range file b input-rows output-rows m found =
+sled-read-in-range file b in-columns out-columns m found =
     let k = read-in-range file b in
-    let says = number-says k (readLengths? (length input-rows) (length output-rows) (length m) (length found)) in
-    either-way (ReadInRange file input-rows output-rows m found) (λ n. afterRead n input-rows output-rows m found) _
+    let says = number-says k (readLengths? (length in-columns) (length out-columns) (length m) (length found)) in
+    either-way (ReadInRange file in-columns out-columns m found) (λ n. afterRead n in-columns out-columns m found) _
     (λ e. record { number = inl (inl refl); four = λ z. refl; job = λ z. job-numbers (k .job (says .1 e)); untouched = λ h. absurd (omega (arith, h)) })
     (λ h. record { number = says .0; four = λ z. absurd (omega (arith, z, h)); job = λ z. absurd (omega (arith, z, h)); untouched = λ l. refl })

@@ -1,8 +1,8 @@
 -- "That no second answer fits is itself proved": whatever two answers keep a function's promise, with whatever they leave in what they were lent, they are the same.
 -- Each promise is an equation with one value, which both answers then are (`one`). First the library's functions, then the C functions; a function of ours that is handed
--- lent rows promises the same of the system that they are (`admission_of`, `run_lent`), so it is the same theorem.
+-- lent columns promises the same of the system that they are (`admission_of`, `run_lent`), so it is the same theorem.
 use Rattle.whole.proofs.Laws.{_≡_, sym, ap, _∙_, List, _++_, ℕ, ℤ, drop}
-use Rattle.digits.proofs.Laws.{System, systemOf}
+use Rattle.digits.proofs.Laws.{StoredSystem, System, stored}
 use Rattle.admission.specs.Types.{Admission}
 use Rattle.admission.proofs.Laws.{admissionOf, refusalNumber}
 use Rattle.states.proofs.Laws.{State, Stop, endNumber}
@@ -15,6 +15,7 @@ use Rattle.printed.specs.Text.{printed}
 use Rattle.printed.specs.Responds.{Responds}
 use Rattle.numbers.proofs.Laws.{wrote, handedOut}
 use Rattle.open_call.proofs.Laws.{openCall}
+use Rattle.columns_call.proofs.Laws.{columnsCall, rowsCall}
 use Rattle.run_call.proofs.Laws.{AfterRun, runCall}
 use Rattle.read_call.proofs.Laws.{AfterRead, readCall}
 use Rattle.plugin.specs.Calls.{admitNumber}
@@ -25,7 +26,7 @@ one p q = p ∙ sym q
 -- ---- the library's functions
 
 -- system_r, system_b, system_d
-pub one-system : (table : List (List ℤ)) (s s′ : System) → s ≡ systemOf table → s′ ≡ systemOf table → s ≡ s′
+pub one-system : (table : List (List ℤ)) (s s′ : StoredSystem) → s ≡ stored table → s′ ≡ stored table → s ≡ s′
 one-system table s s′ = one
 
 -- admit, admission_of
@@ -74,22 +75,30 @@ one-response file room old room₁ room₂ new₁ new₂ r₁ r₂ p q =
 
 -- ---- the C functions: the number, and whatever is written
 
-pub one-sled-admit : (rows : List ℤ) (r r′ : ℕ) → r ≡ admitNumber rows → r′ ≡ admitNumber rows → r ≡ r′
-one-sled-admit rows r r′ = one
+pub one-sled-admit : (s : StoredSystem) (r r′ : ℕ) → r ≡ admitNumber s → r′ ≡ admitNumber s → r ≡ r′
+one-sled-admit s r r′ = one
 
 -- sled_system_r, sled_system_b, sled_system_d
-pub one-sled-system : (table : List (List ℤ)) (old : List ℤ) (r r′ : ℕ) (new new′ : List ℤ) →
-    wrote r new ≡ handedOut table old → wrote r′ new′ ≡ handedOut table old → wrote r new ≡ wrote r′ new′
-one-sled-system table old r r′ new new′ = one
+pub one-sled-system : (s : StoredSystem) (old : List ℤ) (r r′ : ℕ) (new new′ : List ℤ) →
+    wrote r new ≡ handedOut s old → wrote r′ new′ ≡ handedOut s old → wrote r new ≡ wrote r′ new′
+one-sled-system s old r r′ new new′ = one
+
+pub one-sled-columns : (rows old : List ℤ) (r r′ : ℕ) (new new′ : List ℤ) →
+    wrote r new ≡ columnsCall rows old → wrote r′ new′ ≡ columnsCall rows old → wrote r new ≡ wrote r′ new′
+one-sled-columns rows old r r′ new new′ = one
+
+pub one-sled-rows : (s : StoredSystem) (old : List ℤ) (r r′ : ℕ) (new new′ : List ℤ) →
+    wrote r new ≡ rowsCall s old → wrote r′ new′ ≡ rowsCall s old → wrote r new ≡ wrote r′ new′
+one-sled-rows s old r r′ new new′ = one
 
 pub one-sled-open : (m old : List ℤ) (r r′ : ℕ) (new new′ : List ℤ) →
     wrote r new ≡ openCall m old → wrote r′ new′ ≡ openCall m old → wrote r new ≡ wrote r′ new′
 one-sled-open m old r r′ new new′ = one
 
-pub one-sled-run : (input-rows output-rows : List ℤ) (input : List ℕ) (old : List ℤ) (output counts : List ℕ) (x y : AfterRun) →
-    x ≡ runCall input-rows output-rows input old output counts → y ≡ runCall input-rows output-rows input old output counts → x ≡ y
-one-sled-run input-rows output-rows input old output counts x y = one
+pub one-sled-run : (a b : StoredSystem) (input : List ℕ) (old : List ℤ) (output counts : List ℕ) (x y : AfterRun) →
+    x ≡ runCall a b input old output counts → y ≡ runCall a b input old output counts → x ≡ y
+one-sled-run a b input old output counts x y = one
 
-pub one-sled-read : (file : List ℕ) (input-rows output-rows m : List ℤ) (found : List ℕ) (x y : AfterRead) →
-    x ≡ readCall file input-rows output-rows m found → y ≡ readCall file input-rows output-rows m found → x ≡ y
-one-sled-read file input-rows output-rows m found x y = one
+pub one-sled-read : (file : List ℕ) (in-columns out-columns m : List ℤ) (found : List ℕ) (x y : AfterRead) →
+    x ≡ readCall file in-columns out-columns m found → y ≡ readCall file in-columns out-columns m found → x ≡ y
+one-sled-read file in-columns out-columns m found x y = one

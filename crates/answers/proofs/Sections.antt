@@ -1,7 +1,7 @@
 -- Which numbers a section of a file can be refused by: 1, the number of a wrong count, and those that are given of its contents; and behind the last section 2. A file is
 -- refused in one of its sections, so the numbers of the job file are those of `SectionNumber`.
 use Rattle.whole.proofs.Laws.{refl, subst, List, inl, inr, ℕ, zero, suc, _≤_, arith, ℤ}
-use Rattle.digits.proofs.Laws.{System}
+use Rattle.digits.proofs.Laws.{StoredSystem}
 use Rattle.admission.proofs.Laws.{SystemNumber, admission-number}
 use Rattle.opening.proofs.Laws.{Opening, Opens, OutOfRange, NotAbove, openingNumber}
 use Rattle.sections.proofs.Laws.{_then_, nothing}
@@ -40,7 +40,7 @@ opening-number Opens = inl refl
 opening-number OutOfRange = inr (inl refl)
 opening-number NotAbove = inr (inr refl)
 
-system-number : (s : System) (n : ℕ) → system .Gives s n → 1 ≤ n → SystemNumber n
+system-number : (s : StoredSystem) (n : ℕ) → system .Gives s n → 1 ≤ n → SystemNumber n
 system-number s n g = refusing SystemNumber (subst (ZeroOr SystemNumber) (g .numbered) (admission-number (g .answer)))
 
 matrix-number : (m : List ℤ) (n : ℕ) → matrix .Gives m n → 1 ≤ n → MatrixNumber n

@@ -1,9 +1,9 @@
--- "The largest file is 4,624 bytes": there is one, of 16 digits twice (the rows of B, two times over) and a word of 4096 bytes; `largest` (crates/jobs) has that none is
+-- "The largest file is 4,624 bytes": there is one, of 16 digits twice (the digits of B, two times over) and a word of 4096 bytes; `largest` (crates/jobs) has that none is
 -- longer. So the program's text depends only on the first 4,625 bytes of its input: a file that reads has no more, and of one that is refused only the number and the
 -- section are printed, which these bytes settle.
 use Rattle.whole.proofs.Laws.{_≡_, refl, ap, _∙_, List, [], _∷_, _++_, ℕ, zero, suc, _<_, arith, length, getD, take, take-all, replicate, pos}
 use Rattle.plane.proofs.Laws.{determinantOf}
-use Rattle.digits.proofs.Laws.{System, systemOf, rowsB}
+use Rattle.digits.proofs.Laws.{StoredSystem, systemOf, stored, rowsIn, rowsB}
 use Rattle.admission.proofs.Laws.{Admitted, admitted-exactly, judged}
 use Rattle.job_sections.proofs.Laws.{Bytes, Contents, Rules, SystemRules, layoutOf}
 use Rattle.jobs.proofs.Laws.{Job, Reading, Verdict, Reads, Refused, readOf, reads-laid, layout-length, largest, settled}
@@ -17,12 +17,12 @@ zeros zero i = omega arith
 zeros (suc n) zero = omega arith
 zeros (suc n) (suc i) = zeros n i
 
-abbrev sixteen : System
-sixteen = systemOf (rowsB ++ rowsB)
+abbrev sixteen : StoredSystem
+sixteen = stored (rowsB ++ rowsB)
 
 sixteen-rules : SystemRules sixteen
-unfolding systemOf
-sixteen-rules = record { admissible = admitted-exactly sixteen Admitted .0 (judged .sixteen-twice); unused = refl }
+unfolding stored rowsIn
+sixteen-rules = record { admissible = admitted-exactly (systemOf sixteen) Admitted .0 (judged .sixteen-twice); unused = refl }
 
 abbrev largestJob : Contents
 largestJob = record { input = sixteen; output = sixteen; matrix = pos 1 ∷ pos 0 ∷ pos 0 ∷ pos 1 ∷ []; word = replicate 4096 0 }
@@ -41,7 +41,7 @@ largest-rules = record {
 }
 
 pub largest-reached : (c : Contents) × Rules c × (length (layoutOf c) ≡ 4624)
-unfolding systemOf
+unfolding stored
 largest-reached = (largestJob, largest-rules, omega (arith, layout-length largestJob largest-rules, length-replicate {A = ℕ} 4096 0))
 
 -- ---- what the first 4,625 bytes settle

@@ -3,17 +3,18 @@
 use mathlib.Core.Path.{_≡_}
 use mathlib.Core.List.{List, [], _∷_}
 use mathlib.Core.Logic.{_⊎_}
-use Prim.Native.Nat.{ℕ, _+_, _*_, _≤_, _<_}
+use Prim.Native.Nat.{ℕ, _+_, _*_, _/_, _≤_, _<_}
 use lib.ListN.{length, getD}
 use lib.IntN.{ℤ, pos, negsuc}
 use lib.Signed.{_≤ℤ_, _<ℤ_}
 use Rattle.whole.specs.Range.{at, Within}
-use Rattle.digits.specs.BuiltIn.{joined}
+use Rattle.digits.specs.Types.{StoredSystem}
+use Rattle.digits.specs.Orders.{byRow, byColumn, InRows, SameNumbers}
 use Rattle.admission.specs.Admission.{SystemNumber}
 use Rattle.states.specs.State.{EndNumber}
 use Rattle.judging.specs.Refusal.{RefusalNumber}
 use Rattle.jobs.specs.Types.{Job}
-use Rattle.numbers.specs.Numbers.{wrongLength, Wrote}
+use Rattle.numbers.specs.Numbers.{lentSystem, wrongLength, Wrote}
 use Rattle.run_call.specs.RunCall.{AfterRun, afterRun}
 use Rattle.read_call.specs.ReadCall.{AfterRead, afterRead}
 use Rattle.answers.specs.Numbers.{MatrixNumber, SectionNumber, ZeroOr, OrLength}
@@ -23,10 +24,28 @@ use Rattle.answers.specs.Answers.{JobInRange}
 abbrev pub AdmitInRange : ℕ → Type 0
 AdmitInRange = OrLength (ZeroOr SystemNumber)
 
--- sled_system_r, sled_system_b, sled_system_d: 0 and the table's numbers, or 40
-pub record SystemInRange (table : List (List ℤ)) (old : List ℤ) (w : Wrote) : Type 0 where
+-- sled_system_r, sled_system_b, sled_system_d: 0 and the system's columns, or 40
+pub record SystemInRange (s : StoredSystem) (old : List ℤ) (w : Wrote) : Type 0 where
   pub number : OrLength (λ n. n ≡ 0) (w .number)
-  pub rows : w .number ≡ 0 → w .numbers ≡ joined table
+  pub columns : w .number ≡ 0 → w .numbers ≡ s .columns
+  pub untouched : 1 ≤ w .number → w .numbers ≡ old
+
+-- ---- sled_columns and sled_rows: 0, 3, or 40
+
+abbrev pub TurnNumber : ℕ → Type 0
+TurnNumber = OrLength (ZeroOr (λ n. n ≡ 3))
+
+-- all columns of the system in these rows, unused places 0
+pub record ColumnsInRange (rows old : List ℤ) (w : Wrote) : Type 0 where
+  pub number : TurnNumber (w .number)
+  pub columns : w .number ≡ 0 → SameNumbers (length rows / 8) rows (w .numbers)
+  pub untouched : 1 ≤ w .number → w .numbers ≡ old
+
+-- eight numbers for each digit, as they stand in its columns
+pub record RowsInRange (s : StoredSystem) (old : List ℤ) (w : Wrote) : Type 0 where
+  pub number : TurnNumber (w .number)
+  pub rows : w .number ≡ 0 → InRows (s .count) (w .numbers)
+  pub same : w .number ≡ 0 → (j a : ℕ) → j < 8 → a < s .count → at (w .numbers) (byRow j a) ≡ at (s .columns) (byColumn j a)
   pub untouched : 1 ≤ w .number → w .numbers ≡ old
 
 -- ---- a state's five numbers: entries within ±most, and −1 for nothing held, or a digit that is below the count
@@ -77,14 +96,14 @@ pub record FileNumber (answer : ℕ) : Type 0 where
 -- the job that the numbers stand for: of what is found, the two counts of digits, where the word starts and how long it is
 abbrev pub jobFrom : AfterRead → Job
 jobFrom r = record {
-  input = record { count = getD (r .found) 0 0; rows = r .input-rows };
-  output = record { count = getD (r .found) 1 0; rows = r .output-rows };
+  input = lentSystem (getD (r .found) 0 0) (r .in-columns);
+  output = lentSystem (getD (r .found) 1 0) (r .out-columns);
   matrix = r .matrix;
   word = record { start = getD (r .found) 2 0; length = getD (r .found) 3 0 };
 }
 
-pub record ReadInRange (file : List ℕ) (input-rows output-rows m : List ℤ) (found : List ℕ) (r : AfterRead) : Type 0 where
+pub record ReadInRange (file : List ℕ) (in-columns out-columns m : List ℤ) (found : List ℕ) (r : AfterRead) : Type 0 where
   pub number : OrLength (ZeroOr FileNumber) (r .number)
   pub four : r .number ≡ 0 → length (r .found) ≡ 4
   pub job : r .number ≡ 0 → JobInRange file (jobFrom r)
-  pub untouched : 1 ≤ r .number → r ≡ afterRead (r .number) input-rows output-rows m found
+  pub untouched : 1 ≤ r .number → r ≡ afterRead (r .number) in-columns out-columns m found

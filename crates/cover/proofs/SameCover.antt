@@ -1,11 +1,12 @@
 -- Two systems with the same intervals are covered alike (`same-covered`): the two searches of the test agree on every number that they pass (`first-same`).
-use Rattle.whole.proofs.Laws.{_≡_, ap, ap₂, not, List, Option, ℕ, _<_, arith, ℤ, found?, first-same}
-use Rattle.digits.proofs.Laws.{System, interval, lent}
+use Rattle.whole.proofs.Laws.{_≡_, ap, ap₂, not, Option, ℕ, _<_, arith, found?, first-same}
+use Rattle.digits.proofs.Laws.{System, interval}
 use Rattle.cover.specs.Cover.{goesOnBehind?, someGoesOn?, covered?}
 
-module _ (s : System) (rows : List ℤ) (same : (a : ℕ) → a < s .count → interval s a ≡ interval (lent (s .count) rows) a) where
+module _ (s other : System) (same : (a : ℕ) → a < s .count → interval s a ≡ interval other a) where
+  -- the other one, of as many digits
   abbrev t : System
-  t = lent (s .count) rows
+  t = record { count = s .count; transformation = other .transformation; interval = other .interval }
 
   same-goes-on : (a : ℕ) → a < s .count → someGoesOn? s (interval s a) ≡ someGoesOn? t (interval t a)
   same-goes-on a h = ap found?

@@ -7,8 +7,7 @@ use lib.IntN.{ℤ}
 use Rattle.whole.specs.First.{first, found?}
 use Rattle.plane.specs.Plane.{Pair, Closed, right}
 use Rattle.inclusion.specs.Inclusion.{closed?, same?}
-use Rattle.digits.specs.Types.{System}
-use Rattle.digits.specs.System.{interval}
+use Rattle.digits.specs.System.{System, interval}
 
 -- the point z "lies in the closed interval of some digit"
 abbrev pub Covers : System → Pair → Type 0

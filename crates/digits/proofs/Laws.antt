@@ -1,13 +1,16 @@
 -- What the crates above may use of this one.
 -- the numbers of digits that are there
-pub use Rattle.digits.proofs.Places.{stored-there, stored-rows, stored-128}
--- the same digits, whatever stands behind them
-pub use Rattle.digits.proofs.Places.{same-numbers, filled-same}
+pub use Rattle.digits.proofs.Places.{digit-there, columns-length, columns-at, rows-length, number-in-rows}
+-- from rows to columns and back: the same system
+pub use Rattle.digits.proofs.BothOrders.{one-in-columns, rows-again, columns-again, same-in-columns}
+-- the same digits, whatever stands beside them
+pub use Rattle.digits.proofs.Places.{same-numbers}
 -- from the numbers of each digit to all numbers
 pub use Rattle.digits.proofs.Places.{numbers-near}
 -- the definitions
-pub use Rattle.digits.specs.BuiltIn.{filled, joined, minus, row, rowsB, rowsD, rowsR}
-unfoldable pub use Rattle.digits.specs.BuiltIn.{systemOf}
-pub use Rattle.digits.specs.System.{DigitThere, SameDigits, Stored, Small, interval, lent, transformation}
-unfoldable pub use Rattle.digits.specs.System.{fourAt, intervalAt, transformationAt}
-pub use Rattle.digits.specs.Types.{System}
+pub use Rattle.digits.specs.BuiltIn.{joined, minus, row, rowsB, rowsD, rowsR}
+unfoldable pub use Rattle.digits.specs.BuiltIn.{stored}
+pub use Rattle.digits.specs.System.{SameDigits, Small, System, interval, transformation}
+pub use Rattle.digits.specs.Orders.{Columns, DigitThere, InColumns, asWritten, byColumn, intervalAt, lent, rowPlace, rowsOf, systemOf, transformationAt}
+unfoldable pub use Rattle.digits.specs.Orders.{columnsOf, fourBy, intervalBy, rowsIn, tabulated, transformationBy}
+pub use Rattle.digits.specs.Types.{StoredSystem}

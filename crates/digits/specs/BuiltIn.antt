@@ -1,10 +1,11 @@
 -- The three systems that are built in, "(F ; W)", with document 01's numbers and signs.
 use mathlib.Core.List.{List, [], _∷_, _++_}
-use Prim.Native.Nat.{ℕ, zero, suc, _+_, _*_, _-_}
-use lib.ListN.{getD, set, length, replicate}
+use Prim.Native.Nat.{ℕ, zero, suc, _/_, _%_}
+use lib.ListN.{getD, length}
 use lib.IntN.{ℤ, pos, negsuc}
 use Rattle.whole.specs.Range.{at}
-use Rattle.digits.specs.Types.{System}
+use Rattle.digits.specs.Types.{StoredSystem}
+use Rattle.digits.specs.Orders.{tabulated, columnsOf}
 
 -- −n, so that the tables read as they are printed
 abbrev pub minus : ℕ → ℤ
@@ -39,25 +40,17 @@ rowsB =
     row (pos 1) (minus 1) (pos 0) (pos 2) (minus 2) (pos 1) (pos 0) (pos 1) ∷
     row (pos 1) (pos 0) (minus 1) (pos 2) (minus 1) (pos 1) (pos 1) (pos 3) ∷ []
 
--- rows one behind the other, and 0 in the places of the digits that the system hasn't got
+-- rows one behind the other
 abbrev pub joined : List (List ℤ) → List ℤ
 joined [] = []
 joined (r ∷ rs) = r ++ joined rs
 
-abbrev pub filled : List ℤ → List ℤ
-filled l = l ++ replicate (128 - length l) (pos 0)
+-- a table in memory: as many digits as it has rows, in columns
+unfoldable pub stored : List (List ℤ) → StoredSystem
+unfolding columnsOf
+stored rs = record { count = length rs; columns = columnsOf (joined rs) }
 
-unfoldable pub systemOf : List (List ℤ) → System
-systemOf rs = record { count = length rs; rows = filled (joined rs) }
-
--- ---- how a table is laid out, row after row
-
--- the first j numbers of a row written from a place on
-unfoldable pub putRow : List ℤ → ℕ → List ℤ → ℕ → List ℤ
-putRow rows p row zero = rows
-putRow rows p row (suc j) = set (putRow rows p row j) (p + j) (at row j)
-
--- the first a rows of a table, one behind the other, and 0 in the places that are left
-unfoldable pub putRows : List (List ℤ) → ℕ → List ℤ
-putRows table zero = replicate 128 (pos 0)
-putRows table (suc a) = putRow (putRows table a) (8 * a) (getD table a []) 8
+-- the columns of a table of 16 rows: at place p number p/16 of row p%16
+unfoldable pub tableColumns : List (List ℤ) → List ℤ
+unfolding tabulated
+tableColumns table = tabulated 128 (λ p. at (getD table (p % 16) []) (p / 16))

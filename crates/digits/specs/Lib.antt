@@ -1,4 +1,9 @@
--- Document 01, "A digit system", as definitions: its numbers, and the three systems that are built in.
+-- Document 01, "A digit system", as definitions.
+--   Types     a system in memory
+--   System    a system, by its digits' transformations and intervals
+--   Orders    where a system's numbers stand: in rows, and in memory in columns
+--   BuiltIn   the three systems that are built in
 pub mod Types
 pub mod System
+pub mod Orders
 pub mod BuiltIn

@@ -1,8 +1,6 @@
-// The three systems that are built in: their tables, and how a table's rows are laid one behind the other.
+// The three systems that are built in: their tables, in rows as document 01 prints them, and how a table becomes columns.
 ghost use mathlib.Core.Path.{_≡_};
-ghost use Prim.Native.Nat.{_+_, _≤_};
-ghost use lib.ListN.{length};
-ghost use Rattle.digits.specs.BuiltIn.{systemOf, rowsR, rowsB, rowsD, putRow, putRows};
+ghost use Rattle.digits.specs.BuiltIn.{stored, rowsR, rowsB, rowsD, tableColumns};
 use crate::System;
 
 // A row that no digit uses.
@@ -66,52 +64,40 @@ const B: [[i16; 8]; 16] = [
     NO_ROW,
 ];
 
-// A row written into its place.
-fn put_row(rows: &mut [i16], p: usize, row: [i16; 8])
-    requires { ⌜ p + 8 ≤ length (now rows) ⌝ }
-    ensures { λ _. ⌜ now (rows .exit) ≡ putRow (now (rows .entry)) p row 8 ⌝ }
+// The columns of a table.
+fn columns(table: [[i16; 8]; 16]) -> [i16; 128]
+    ensures { λ r. ⌜ r ≡ tableColumns table ⌝ }
 {
-    let mut j = 0;
-    while j < 8 {
-        rows[p + j] = row[j];
-        j += 1;
+    let mut columns = [0i16; 128];
+    let mut p = 0;
+    while p < 128 {
+        let row = table[p % 16];
+        columns[p] = row[p / 16];
+        p += 1;
     }
-}
-
-// The rows of a table, one behind the other.
-fn flat(table: [[i16; 8]; 16]) -> [i16; 128]
-    ensures { λ r. ⌜ r ≡ putRows table 16 ⌝ }
-{
-    let mut rows = [0i16; 128];
-    let mut a = 0;
-    while a < 16 {
-        let row = table[a];
-        put_row(&mut rows, 8 * a, row);
-        a += 1;
-    }
-    rows
+    columns
 }
 
 // The built-in system R (document 000).
 pub fn system_r() -> System
-    ensures { λ r. ⌜ r ≡ systemOf rowsR ⌝ }
+    ensures { λ r. ⌜ r ≡ stored rowsR ⌝ }
 {
-    let rows = flat(R);
-    System { count: 4, rows }
+    let columns = columns(R);
+    System { count: 4, columns }
 }
 
 // The built-in system D (document 004, binary redundant).
 pub fn system_d() -> System
-    ensures { λ r. ⌜ r ≡ systemOf rowsD ⌝ }
+    ensures { λ r. ⌜ r ≡ stored rowsD ⌝ }
 {
-    let rows = flat(D);
-    System { count: 4, rows }
+    let columns = columns(D);
+    System { count: 4, columns }
 }
 
 // The built-in system B (document 001, the maximal cover).
 pub fn system_b() -> System
-    ensures { λ r. ⌜ r ≡ systemOf rowsB ⌝ }
+    ensures { λ r. ⌜ r ≡ stored rowsB ⌝ }
 {
-    let rows = flat(B);
-    System { count: 8, rows }
+    let columns = columns(B);
+    System { count: 8, columns }
 }

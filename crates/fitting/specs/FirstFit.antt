@@ -6,8 +6,7 @@ use Prim.Native.Nat.{ℕ}
 use lib.IntN.{ℤ}
 use Rattle.whole.specs.First.{first}
 use Rattle.inclusion.specs.Inclusion.{included?}
-use Rattle.digits.specs.Types.{System}
-use Rattle.digits.specs.System.{interval}
+use Rattle.digits.specs.System.{System, interval}
 use Rattle.fitting.specs.Types.{Fitting, At, Missing}
 
 abbrev pub fits? : System → List ℤ → ℕ → Bool

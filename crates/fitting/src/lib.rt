@@ -2,7 +2,8 @@
 ghost use mathlib.Core.Path.{_≡_};
 ghost use Prim.Native.Nat.{_≤_};
 ghost use Rattle.whole.specs.Range.{Within};
-ghost use Rattle.digits.specs.System.{lent, Stored, Small};
+ghost use Rattle.digits.specs.System.{Small};
+ghost use Rattle.digits.specs.Orders.{lent, Columns};
 ghost use Rattle.fitting.specs.FirstFit.{fittingOf, fitting};
 
 // The digit that fits, if one does.
@@ -12,13 +13,13 @@ pub enum Fitting {
 }
 
 // Line 4, its first half: the smallest output digit whose interval includes the image.
-pub fn fitting_digit(count: usize, rows: &[i16], image: [i64; 4]) -> Fitting
-    requires { ⌜ (Stored (lent count (now rows))) × (count ≤ 16) × (Small (lent count (now rows))) × (Within 200000000000 image) ⌝ }
-    ensures { λ r. ⌜ r ≡ fitting (fittingOf (lent count (now (rows .entry))) image) ⌝ }
+pub fn fitting_digit(count: usize, columns: &[i16], image: [i64; 4]) -> Fitting
+    requires { ⌜ (Columns (now columns)) × (count ≤ 16) × (Small (lent count (now columns))) × (Within 200000000000 image) ⌝ }
+    ensures { λ r. ⌜ r ≡ fitting (fittingOf (lent count (now (columns .entry))) image) ⌝ }
 {
     let mut b = 0;
     while b < count {
-        if inclusion::included(image, digits::interval(rows, b)) {
+        if inclusion::included(image, digits::interval(columns, b)) {
             return Fitting::At(b as u8);
         }
         b += 1;

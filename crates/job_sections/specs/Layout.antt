@@ -3,21 +3,21 @@
 -- 4, then a b c d as such numbers); word (count 0..4096, one byte a digit). Nothing follows."
 use mathlib.Core.Path.{_≡_}
 use mathlib.Core.List.{List, [], _∷_, _++_}
-use Prim.Native.Nat.{ℕ, _*_, _-_, _≤_}
-use lib.ListN.{length, take}
+use Prim.Native.Nat.{ℕ, _-_, _≤_}
+use lib.ListN.{length}
 use lib.IntN.{ℤ, pos, negsuc}
 use lib.Signed.{_<ℤ_}
 use Rattle.whole.specs.Range.{Within}
 use Rattle.plane.specs.Plane.{determinantOf}
 use Rattle.admission.specs.Admitted.{Admissible}
-use Rattle.digits.specs.BuiltIn.{filled}
-use Rattle.digits.specs.Types.{System}
+use Rattle.digits.specs.Types.{StoredSystem}
+use Rattle.digits.specs.Orders.{systemOf, columnsOf, rowsOf}
 pub use Rattle.sections.specs.Bytes.{Bytes, twoBytes}
 
 -- what a job is: two systems, a matrix and a word
 pub record Contents : Type 0 where
-  pub input : System
-  pub output : System
+  pub input : StoredSystem
+  pub output : StoredSystem
   pub matrix : List ℤ
   pub word : List ℕ
 
@@ -31,12 +31,9 @@ abbrev pub numbersBytes : List ℤ → List ℕ
 numbersBytes [] = []
 numbersBytes (z ∷ zs) = twoBytes (complement z) ++ numbersBytes zs
 
--- "rows of eight": the numbers of the digits that a system has, row by row
-abbrev pub rowsOf : System → List ℤ
-rowsOf s = take (8 * s .count) (s .rows)
-
--- "input system (count of digits, rows of eight signed 16-bit numbers ..)", with `twoBytes` for "2 bytes, low byte first"
-abbrev pub systemBytes : System → List ℕ
+-- "input system (count of digits, rows of eight signed 16-bit numbers ..)", with `twoBytes` for "2 bytes, low byte first". `rowsOf`: the numbers of the
+-- digits that a system has, row by row, whatever their order in memory.
+abbrev pub systemBytes : StoredSystem → List ℕ
 systemBytes s = twoBytes (s .count) ++ numbersBytes (rowsOf s)
 
 -- "matrix (count 4, then a b c d as such numbers)"
@@ -54,9 +51,9 @@ layoutOf c = systemBytes (c .input) ++ (systemBytes (c .output) ++ (matrixBytes 
 -- ---- the rules for the contents
 
 -- a system is admitted, and "what is kept for the digits a system hasn't got is 0 when it is read"
-pub record SystemRules (s : System) : Type 0 where
-  pub admissible : Admissible s
-  pub unused : s .rows ≡ filled (rowsOf s)
+pub record SystemRules (s : StoredSystem) : Type 0 where
+  pub admissible : Admissible (systemOf s)
+  pub unused : s .columns ≡ columnsOf (rowsOf s)
 
 -- "Opening takes M with entries in −1000..1000 and determinant above 0"
 pub record MatrixRules (m : List ℤ) : Type 0 where

@@ -14,10 +14,10 @@ use Rattle.sections.specs.Section.{Section}
 use Rattle.whole.specs.Range.{at}
 use Rattle.admission.specs.Admission.{refusalNumber, admissionOf}
 use Rattle.admission.specs.Admitted.{SystemCase}
-use Rattle.digits.specs.BuiltIn.{filled}
-use Rattle.digits.specs.Types.{System}
+use Rattle.digits.specs.Types.{StoredSystem}
+use Rattle.digits.specs.Orders.{systemOf, columnsOf, rowsOf}
 use Rattle.opening.specs.Opening.{openingNumber, openingOf, OpeningCase}
-use Rattle.job_sections.specs.Layout.{numbersBytes, rowsOf, WordRules}
+use Rattle.job_sections.specs.Layout.{numbersBytes, WordRules}
 
 -- ---- "signed 16-bit numbers, low byte first, two's complement"
 
@@ -51,21 +51,21 @@ pub record ByNumber {E : Type 0} (numberOf : E → ℕ) (Case : E → Type 0) (n
 -- ---- a system: "3: a system has 0 or more than 16 digits"; then 6 to 10
 
 -- rows of signed 16-bit numbers, and 0 for the digits that the system hasn't got
-pub record SystemSayable (s : System) : Type 0 where
+pub record SystemSayable (s : StoredSystem) : Type 0 where
   pub some-digits : 1 ≤ s .count
   pub few-digits : s .count ≤ 16
   pub numbers : Sixteen (rowsOf s)
-  pub unused : s .rows ≡ filled (rowsOf s)
+  pub unused : s .columns ≡ columnsOf (rowsOf s)
 
-abbrev pub system : Section System
+abbrev pub system : Section StoredSystem
 system = record {
   limits = record { least = 1; most = 16; wrong = 3; unit = 16 };
   count = λ s. s .count;
   body = λ s. numbersBytes (rowsOf s);
   Sayable = SystemSayable;
-  Gives = λ s. ByNumber refusalNumber (SystemCase s);
-  value = λ n body. record { count = n; rows = filled (numbersIn body) };
-  number = λ s. refusalNumber (admissionOf s);
+  Gives = λ s. ByNumber refusalNumber (SystemCase (systemOf s));
+  value = λ n body. record { count = n; columns = columnsOf (numbersIn body) };
+  number = λ s. refusalNumber (admissionOf (systemOf s));
 }
 
 -- ---- a matrix: "4: the matrix count is not 4"; then 6 and 11, as opening judges

@@ -3,7 +3,8 @@ ghost use mathlib.Core.Path.{_≡_};
 ghost use Prim.Native.Nat.{_+_, _*_, _≤_};
 ghost use lib.ListN.{length};
 ghost use Rattle.sections.specs.Answered.{Answered};
-ghost use Rattle.digits.specs.BuiltIn.{filled};
+ghost use Rattle.whole.specs.Range.{at};
+ghost use Rattle.digits.specs.Orders.{columnsOf};
 ghost use Rattle.job_sections.specs.Sections.{numberAt, numbersIn, system as systemOf, matrix as matrixOf};
 use digits::System;
 
@@ -32,18 +33,29 @@ fn number_at(bytes: &[u8], p: usize) -> i16
     (u as i64 - 65536) as i16
 }
 
-// All numbers of the bytes become the rows of a system, with 0 in the places that are left.
-fn rows_in(bytes: &[u8], k: usize) -> [i16; 128]
-    requires { ⌜ (length (now bytes) ≡ 2 * k) × (k ≤ 128) ⌝ }
-    ensures { λ r. ⌜ r ≡ filled (numbersIn (now (bytes .entry))) ⌝ }
+// The i-th of the k numbers of the bytes, and 0 behind them.
+fn number_or_0(bytes: &[u8], k: usize, i: usize) -> i16
+    requires { ⌜ length (now bytes) ≡ 2 * k ⌝ }
+    ensures { λ r. ⌜ r ≡ at (numbersIn (now (bytes .entry))) i ⌝ }
 {
-    let mut rows = [0i16; 128];
-    let mut i = 0;
-    while i < k {
-        rows[i] = number_at(bytes, 2 * i);
-        i += 1;
+    if i < k {
+        return number_at(bytes, 2 * i);
     }
-    rows
+    0
+}
+
+// The k numbers of the bytes, which stand there row by row, become the columns of a system, with 0 in the places that are left.
+fn columns_in(bytes: &[u8], k: usize) -> [i16; 128]
+    requires { ⌜ length (now bytes) ≡ 2 * k ⌝ }
+    ensures { λ r. ⌜ r ≡ columnsOf (numbersIn (now (bytes .entry))) ⌝ }
+{
+    let mut columns = [0i16; 128];
+    let mut p = 0;
+    while p < 128 {
+        columns[p] = number_or_0(bytes, k, digits::row_place(p));
+        p += 1;
+    }
+    columns
 }
 
 // A system's section, of the bytes from its count on.
@@ -54,7 +66,7 @@ pub fn system_section(bytes: &[u8]) -> SystemSection
     if number != 0 {
         let system = System {
             count: 0,
-            rows: [0i16; 128],
+            columns: [0i16; 128],
         };
         return SystemSection {
             number,
@@ -64,9 +76,9 @@ pub fn system_section(bytes: &[u8]) -> SystemSection
     }
     let count = sections::pair_at(bytes, 0);
     let size = 2 + 16 * count;
-    let rows = rows_in(&bytes[2..size], 8 * count);
-    let number = admission::refusal_number(admission::admission_of(count, &rows));
-    let system = System { count, rows };
+    let columns = columns_in(&bytes[2..size], 8 * count);
+    let number = admission::refusal_number(admission::admission_of(count, &columns));
+    let system = System { count, columns };
     SystemSection {
         number,
         size,

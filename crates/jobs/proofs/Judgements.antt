@@ -1,18 +1,17 @@
 -- What admission and opening say of what was read: the number of the sentence that holds; and their numbers are signed 16-bit numbers.
-use Rattle.whole.proofs.Laws.{_≡_, refl, sym, ap, _∙_, subst, not, List, ℕ, zero, suc, _*_, _-_, _≤_, _<_, decLt, arith, eqb, length, replicate, length-append, List·getD-eq-default, getD-take, length-take-le, ℤ, pos, negsuc, at, Near, Within}
-use Rattle.digits.proofs.Laws.{filled, numbers-near, System}
+use Rattle.whole.proofs.Laws.{_≡_, refl, sym, ap, _∙_, subst, not, List, ℕ, zero, suc, _*_, _≤_, _<_, decLt, arith, eqb, length, List·getD-eq-default, ℤ, pos, negsuc, at, Near, Within}
+use Rattle.digits.proofs.Laws.{StoredSystem, systemOf, rowsOf, numbers-near, rows-length}
 use Rattle.admission.proofs.Laws.{refusalNumber, admissionOf, Admissible, SystemCase, not-refused, admitted-says, admitted-only}
 use Rattle.opening.proofs.Laws.{openingNumber, openingOf, OpeningCase, Opening, Opens, OutOfRange, NotAbove, opening-says, one-case}
-use lib.ListN.{length-replicate}
-use Rattle.job_sections.proofs.Laws.{rowsOf, SystemRules, MatrixRules, Signed16, Sixteen, system, matrix, pos-16, negsuc-16}
+use Rattle.job_sections.proofs.Laws.{SystemRules, MatrixRules, Signed16, Sixteen, system, matrix, pos-16, negsuc-16}
 
 -- ---- the number of the sentence that holds
 
-pub system-gives : (s : System) → system .Gives s (system .number s)
-system-gives s = record { answer = admissionOf s; numbered = refl; holds = admitted-says s }
+pub system-gives : (s : StoredSystem) → system .Gives s (system .number s)
+system-gives s = record { answer = admissionOf (systemOf s); numbered = refl; holds = admitted-says (systemOf s) }
 
-pub system-given : (s : System) (number : ℕ) → system .Gives s number → system .number s ≡ number
-system-given s number g = ap refusalNumber (sym (admitted-only s (g .answer) (g .holds))) ∙ g .numbered
+pub system-given : (s : StoredSystem) (number : ℕ) → system .Gives s number → system .number s ≡ number
+system-given s number g = ap refusalNumber (sym (admitted-only (systemOf s) (g .answer) (g .holds))) ∙ g .numbered
 
 pub matrix-gives : (m : List ℤ) → matrix .Gives m (matrix .number m)
 matrix-gives m = record { answer = openingOf m; numbered = refl; holds = opening-says m }
@@ -21,8 +20,8 @@ pub matrix-given : (m : List ℤ) (number : ℕ) → matrix .Gives m number → 
 matrix-given m number g = ap openingNumber (one-case m (openingOf m) (g .answer) (opening-says m) (g .holds)) ∙ g .numbered
 
 -- 0 is the number of one sentence alone
-pub admitted : {s : System} → system .Gives s 0 → Admissible s
-admitted {s} g = subst (SystemCase s) (not-refused (g .answer) (ap (λ (n : ℕ). not (eqb n 0)) (g .numbered))) (g .holds)
+pub admitted : (s : StoredSystem) → system .Gives s 0 → Admissible (systemOf s)
+admitted s g = subst (SystemCase (systemOf s)) (not-refused (g .answer) (ap (λ (n : ℕ). not (eqb n 0)) (g .numbered))) (g .holds)
 
 pub opened : {m : List ℤ} → matrix .Gives m 0 → OpeningCase m Opens
 opened {m} g = by (g .answer) (g .numbered) (g .holds)
@@ -55,15 +54,6 @@ four m w (suc (suc (suc (suc j)))) h = absurd (omega arith)
 pub matrix-16 : {m : List ℤ} → MatrixRules m → Sixteen m
 matrix-16 {m} h = list-16 {b = 1000} m (omega arith) (λ i k. four m (h .in-range) i (omega (arith, h .four)))
 
--- 128 places, of which the first 8·n are used
-pub rows-length : {s : System} → s .count ≤ 16 → s .rows ≡ filled (rowsOf s) → length (rowsOf s) ≡ 8 * s .count
-rows-length {s} few e =
-    let zs = rowsOf s in
-    let k = 128 - length zs in
-    length-take-le (8 * s .count) (s .rows) (omega (arith, ap length e, length-append zs (replicate k (pos 0)), length-replicate k (pos 0)))
-
-pub system-16 : {s : System} → SystemRules s → Sixteen (rowsOf s)
-system-16 {s} h =
-    let n = 8 * s .count in
-    list-16 {b = 100} (rowsOf s) (omega arith) (λ i k. let l : i < n = omega (arith, rows-length (h .admissible .few-digits) (h .unused)) in
-    rw (getD-take n (s .rows) i (pos 0)) (numbers-near s (λ a b. let w = h .admissible .digits a b .in-range in (w .numbers-f, w .numbers-w)) i l))
+pub system-16 : {s : StoredSystem} → SystemRules s → Sixteen (rowsOf s)
+system-16 {s} h = list-16 {b = 100} (rowsOf s) (omega arith) (λ i k.
+    numbers-near (s .count) (s .columns) (λ a b. let w = h .admissible .digits a b .in-range in (w .numbers-f, w .numbers-w)) i (omega (arith, k, rows-length (8 * s .count) (s .columns))))

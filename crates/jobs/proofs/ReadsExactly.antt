@@ -2,7 +2,7 @@
 -- file is refused by a number in a section exactly if document 01's sentence for that number holds there and every section before keeps the rules. `read-says`: one of the
 -- two is the case for every file. Each is what holds of every file of sections.
 use Rattle.whole.proofs.Laws.{_≡_, refl, sym, ap, ap₂, _∙_, subst, List, _++_, append-nil, append-assoc, _↔_, ℕ, _+_, _≤_, arith, length, take, drop, length-append, drop-at}
-use Rattle.digits.proofs.Laws.{System}
+use Rattle.digits.proofs.Laws.{StoredSystem}
 use Rattle.admission.proofs.Laws.{Admitted}
 use Rattle.opening.proofs.Laws.{Opens}
 use Rattle.sections.proofs.Laws.{Exact, reads, refuses}
@@ -33,13 +33,13 @@ same-layout c = ap (λ (l : List ℕ). systemBytes (c .input) ++ (systemBytes (c
 
 kept-rules : (p : Parts) → job .Keeps p → Rules (contentsOf p)
 kept-rules p k = record {
-  input = record { admissible = admitted (k .0 .kept); unused = k .0 .sayable .unused };
-  output = record { admissible = admitted (k .1 .0 .kept); unused = k .1 .0 .sayable .unused };
+  input = record { admissible = admitted (p .0) (k .0 .kept); unused = k .0 .sayable .unused };
+  output = record { admissible = admitted (p .1 .0) (k .1 .0 .kept); unused = k .1 .0 .sayable .unused };
   matrix = let m = k .1 .1 .0 in record { four = m .sayable .four; in-range = opened (m .kept) .0; above = opened (m .kept) .1 };
   word = k .1 .1 .1 .0 .sayable;
 }
 
-system-kept : (s : System) → SystemRules s → Kept system s
+system-kept : (s : StoredSystem) → SystemRules s → Kept system s
 system-kept s h = record {
   sayable = record { some-digits = h .admissible .some-digits; few-digits = h .admissible .few-digits; numbers = system-16 h; unused = h .unused };
   kept = record { answer = Admitted; numbered = refl; holds = h .admissible };

@@ -1,11 +1,11 @@
 -- The three kinds of section keep the laws of a section, and so the job file is read exactly as its words say.
-use Rattle.whole.proofs.Laws.{_≡_, refl, sym, ap, _∙_, List, _++_, ℕ, _*_, _-_, arith, length, take, replicate, take-at, ℤ, pos}
-use Rattle.digits.proofs.Laws.{filled}
+use Rattle.whole.proofs.Laws.{_≡_, refl, sym, ap, _∙_, List, _++_, ℕ, _*_, arith, length, ℤ}
+use Rattle.digits.proofs.Laws.{columnsOf, rowsIn, rowsOf, rows-length, rows-again}
 use Rattle.sections.proofs.Laws.{Lawful, nothing-lawful, then-lawful}
 use Rattle.sections.specs.Section.{Lawful as LawfulSection}
-use Rattle.job_sections.proofs.Laws.{twoBytes, numbersBytes, rowsOf, Bytes, Sixteen, numbersIn, system, matrix, word, numbers-bytes-length, numbers-read, read-numbers, numbers-16}
+use Rattle.job_sections.proofs.Laws.{twoBytes, numbersBytes, Bytes, Sixteen, numbersIn, system, matrix, word, numbers-bytes-length, numbers-read, read-numbers, numbers-16}
 use Rattle.jobs.specs.Reading.{job}
-use Rattle.jobs.proofs.Judgements.{system-gives, system-given, matrix-gives, matrix-given, rows-length}
+use Rattle.jobs.proofs.Judgements.{system-gives, system-given, matrix-gives, matrix-given}
 
 -- as many numbers as the bytes have, which are signed 16-bit numbers and have these bytes
 record AreNumbers (k : ℕ) (body : List ℕ) : Type 0 where
@@ -24,17 +24,17 @@ system-lawful = record {
   says = λ n body h w.
       let zs = numbersIn body in
       let a = are-numbers (8 * n) body h (omega (arith, w .size)) in
-      let e : take (8 * n) (filled zs) ≡ zs = take-at zs (replicate (128 - length zs) (pos 0)) (8 * n) (a .size) in (
-        record { some-digits = w .some; few-digits = w .few; numbers = rw e (a .sixteen); unused = ap filled (sym e) },
+      let e : rowsIn (8 * n) (columnsOf zs) ≡ zs = rows-again (w .few) zs (a .size) in (
+        record { some-digits = w .some; few-digits = w .few; numbers = rw e (a .sixteen); unused = ap columnsOf (sym e) },
         ap (λ (l : List ℤ). twoBytes n ++ numbersBytes l) e ∙ ap (λ (l : List ℕ). twoBytes n ++ l) (a .back),
       );
   said = λ s h. (
     record {
       some = h .some-digits;
       few = h .few-digits;
-      size = omega (arith, numbers-bytes-length (rowsOf s), rows-length (h .few-digits) (h .unused));
+      size = omega (arith, numbers-bytes-length (rowsOf s), rows-length (8 * s .count) (s .columns));
     },
-    λ i. record { count = s .count; rows = (ap filled (numbers-read (rowsOf s) (h .numbers)) ∙ sym (h .unused)) i },
+    λ i. record { count = s .count; columns = (ap columnsOf (numbers-read (rowsOf s) (h .numbers)) ∙ sym (h .unused)) i },
   );
   gives = λ s h. system-gives s;
   given = λ s number h. system-given s number;

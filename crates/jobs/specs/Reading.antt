@@ -5,7 +5,7 @@ use Prim.Native.Nat.{ℕ, _+_, _*_}
 use lib.ListN.{length, replicate}
 use lib.IntN.{ℤ, pos}
 use Rattle.sections.specs.File.{File, nothing, _then_}
-use Rattle.digits.specs.Types.{System}
+use Rattle.digits.specs.Types.{StoredSystem}
 use Rattle.opening.specs.Opening.{noMatrix}
 use Rattle.jobs.specs.Types.{Verdict, Reads, Refused, Job, Reading}
 use Rattle.job_sections.specs.Layout.{Contents}
@@ -24,7 +24,7 @@ verdictSection (Refused number section) = section
 -- ---- a file that reads
 
 -- a system's bytes: its count, and eight numbers of two bytes for each digit
-abbrev pub bytesOf : System → ℕ
+abbrev pub bytesOf : StoredSystem → ℕ
 bytesOf s = 2 + 16 * s .count
 
 -- behind two systems, ten bytes of a matrix and the word's count
@@ -40,8 +40,8 @@ readingOf c = record {
 
 -- ---- a file that is refused: "no job"; what stands in its place is all 0
 
-abbrev pub noSystem : System
-noSystem = record { count = 0; rows = replicate 128 (pos 0) }
+abbrev pub noSystem : StoredSystem
+noSystem = record { count = 0; columns = replicate 128 (pos 0) }
 
 abbrev pub noJob : Job
 noJob = record { input = noSystem; output = noSystem; matrix = noMatrix; word = record { start = 0; length = 0 } }
@@ -52,7 +52,7 @@ refused number section = record { verdict = Refused number section; job = noJob 
 -- ---- "Four sections in fixed order .. Nothing follows."
 
 abbrev pub Parts : Type 0
-Parts = System × (System × (List ℤ × (List ℕ × Unit {0})))
+Parts = StoredSystem × (StoredSystem × (List ℤ × (List ℕ × Unit {0})))
 
 abbrev pub job : File Parts
 job = system then (system then (matrix then (word then nothing)))

@@ -35,7 +35,7 @@ fn refused(number: u8, section: u8) -> Reading
 {
     let none = System {
         count: 0,
-        rows: [0i16; 128],
+        columns: [0i16; 128],
     };
     let word = Word {
         start: 0,

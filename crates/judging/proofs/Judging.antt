@@ -3,7 +3,7 @@
 -- The argument goes through the three judgements in their order: the first number that is not 0 decides.
 use Rattle.whole.proofs.Laws.{_≡_, refl, Bool, true, false, cond, _&&_, _⊎_, inl, inr, _↔_, ℕ, zero, suc, arith, ltb-true, lt-ltb, eqb-true, eq-eqb, pos, ltZ, gcd4, unlessRefused, lt-true, true-lt, both-true, true-both, within?, lowest?, within-says, says-within}
 use Rattle.plane.proofs.Laws.{determinantOf}
-use Rattle.digits.proofs.Laws.{System, Stored}
+use Rattle.digits.proofs.Laws.{System}
 use Rattle.admission.proofs.Laws.{Admitted, refusalNumber, admissionOf, SystemNumber, number-0, admission-number, admitted-few, admitted-digits}
 use Rattle.states.proofs.Laws.{Held, Nothing, Digit, State, HeldDigit, StateRules}
 use Rattle.steps.proofs.Laws.{Setting, Usable, Ready}
@@ -74,14 +74,14 @@ accepted y s = (to, from)
     from : Accepted y s → refusalOf y s ≡ 0
     from a = rw (a .input, a .output, state-says (y .input .count) s .1 (a .state))
 
--- so the steps of a run may rely on all of that, if the numbers of each system are there
-usable : (s : System) → Stored s → admissionOf s ≡ Admitted → Usable s
-usable s stored e = record { stored = stored; few = admitted-few s e; digits = admitted-digits s e }
+-- so the steps of a run may rely on all of that
+usable : (s : System) → admissionOf s ≡ Admitted → Usable s
+usable s e = record { few = admitted-few s e; digits = admitted-digits s e }
 
-pub accepted-ready : (y : Setting) (s : State) → Stored (y .input) → Stored (y .output) → refusalOf y s ≡ 0 → Ready y s
-accepted-ready y s p q e =
+pub accepted-ready : (y : Setting) (s : State) → refusalOf y s ≡ 0 → Ready y s
+accepted-ready y s e =
     let a = accepted y s .0 e in
-    record { input = usable (y .input) p (a .input); output = usable (y .output) q (a .output); state = a .state }
+    record { input = usable (y .input) (a .input); output = usable (y .output) (a .output); state = a .state }
 
 -- ---- something is refused
 

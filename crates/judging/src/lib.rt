@@ -1,6 +1,6 @@
 // What a run judges before any step: document 01's section "The step", refusal 12.
 ghost use mathlib.Core.Path.{_≡_};
-ghost use Rattle.digits.specs.System.{lent, Stored};
+ghost use Rattle.digits.specs.Orders.{lent, Columns};
 ghost use Rattle.steps.specs.Step.{setting};
 ghost use Rattle.judging.specs.Refusal.{heldDigit?, state?, refusalOf};
 use states::Held;
@@ -37,19 +37,19 @@ fn state_kept(n: usize, s: State) -> bool
 // "A run judges its input system (3, 6 to 10), its output system, then the state (12), before any step": the number of the refusal, or 0.
 pub fn refusal(
     input_count: usize,
-    input_rows: &[i16],
+    input_columns: &[i16],
     output_count: usize,
-    output_rows: &[i16],
+    output_columns: &[i16],
     s: State,
 ) -> u8
-    requires { ⌜ (Stored (lent «input_count» (now «input_rows»))) × (Stored (lent «output_count» (now «output_rows»))) ⌝ }
-    ensures { λ r. ⌜ r ≡ refusalOf (setting (lent «input_count» (now («input_rows» .entry))) (lent «output_count» (now («output_rows» .entry)))) s ⌝ }
+    requires { ⌜ (Columns (now «input_columns»)) × (Columns (now «output_columns»)) ⌝ }
+    ensures { λ r. ⌜ r ≡ refusalOf (setting (lent «input_count» (now («input_columns» .entry))) (lent «output_count» (now («output_columns» .entry)))) s ⌝ }
 {
-    let a = admission::refusal_number(admission::admission_of(input_count, input_rows));
+    let a = admission::refusal_number(admission::admission_of(input_count, input_columns));
     if a != 0 {
         return a;
     }
-    let b = admission::refusal_number(admission::admission_of(output_count, output_rows));
+    let b = admission::refusal_number(admission::admission_of(output_count, output_columns));
     if b != 0 {
         return b;
     }

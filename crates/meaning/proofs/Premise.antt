@@ -7,7 +7,7 @@
 use Rattle.whole.proofs.Laws.{_≡_, refl, List, [], _∷_, ℕ, zero, suc, arith, T, ℤ, pos, up<}
 use Rattle.plane.proofs.Laws.{Pair, SamePoint, apply, Closed, scalePair, above-not-0, same-refl, same-sym, same-trans, same-scale, closed-same}
 use Rattle.inclusion.proofs.Laws.{closed?}
-use Rattle.digits.proofs.Laws.{System, fourAt, transformationAt, intervalAt, minus, rowsR, rowsD, systemOf}
+use Rattle.digits.proofs.Laws.{System, transformationBy, intervalBy, minus, rowsR, rowsD, stored, systemOf}
 use Rattle.states.proofs.Laws.{Digit}
 use Rattle.meaning.specs.Names.{namedFrom, EachInItsInterval, HeldInItsInterval}
 use Rattle.meaning.proofs.Products.{named-same}
@@ -18,10 +18,10 @@ abbrev pub _over_ : ℤ → ℤ → Pair
 x over y = record { z0 = x; z1 = y }
 
 abbrev pub R : System
-R = systemOf rowsR
+R = systemOf (stored rowsR)
 
 abbrev pub D : System
-D = systemOf rowsD
+D = systemOf (stored rowsD)
 
 -- the test of `closed?`, where it computes
 pub computed : {w : List ℤ} {z : Pair} → T (closed? w z) → Closed w z
@@ -35,19 +35,19 @@ refused f c = f (c .not-below .le)
 -- ---- it holds
 
 pub names-2/5 : namedFrom R (0 ∷ 0 ∷ 1 ∷ []) (pos 1 over pos 1) ≡ pos 2 over pos 5
-unfolding namedFrom apply fourAt transformationAt intervalAt systemOf
+unfolding namedFrom apply transformationBy intervalBy stored
 names-2/5 = refl
 
 pub holds-at-1 : EachInItsInterval R (0 ∷ 0 ∷ 1 ∷ []) (pos 1 over pos 1)
-unfolding EachInItsInterval namedFrom apply fourAt transformationAt intervalAt systemOf closed?
+unfolding EachInItsInterval namedFrom apply transformationBy intervalBy stored closed?
 holds-at-1 = (computed tt, (computed tt, (computed tt, tt)))
 
 pub holds-at-infinity : EachInItsInterval R (0 ∷ 0 ∷ 1 ∷ []) (pos 1 over pos 0)
-unfolding EachInItsInterval namedFrom apply fourAt transformationAt intervalAt systemOf closed?
+unfolding EachInItsInterval namedFrom apply transformationBy intervalBy stored closed?
 holds-at-infinity = (computed tt, (computed tt, (computed tt, tt)))
 
 pub held-holds : HeldInItsInterval R (Digit 1) (pos 2 over pos 1)
-unfolding fourAt transformationAt intervalAt systemOf closed?
+unfolding transformationBy intervalBy stored closed?
 held-holds = computed tt
 
 -- D's endless word 2 0 2 0 .., as far as 2·n digits
@@ -57,12 +57,12 @@ endless (suc n) = 2 ∷ 0 ∷ endless n
 
 -- it names 1/3: two digits more make 4/12 of 1/3
 pub endless-names : (n : ℕ) → SamePoint (namedFrom D (endless n) (pos 1 over pos 3)) (pos 1 over pos 3)
-unfolding endless namedFrom apply fourAt transformationAt intervalAt systemOf scalePair
+unfolding endless namedFrom apply transformationBy intervalBy stored scalePair
 endless-names zero = same-refl (pos 1 over pos 3)
 endless-names (suc n) = same-trans (named-same D (2 ∷ 0 ∷ []) (endless-names n)) (same-sym (same-scale (pos 4) (pos 1 over pos 3) (above-not-0 (up< (omega arith)))))
 
 pub endless-holds : (n : ℕ) → EachInItsInterval D (endless n) (pos 1 over pos 3)
-unfolding endless EachInItsInterval namedFrom apply fourAt transformationAt intervalAt systemOf closed?
+unfolding endless EachInItsInterval namedFrom apply transformationBy intervalBy stored closed?
 endless-holds zero = tt
 endless-holds (suc n) =
     let s = same-sym (endless-names n) in
@@ -71,11 +71,11 @@ endless-holds (suc n) =
 -- ---- it fails
 
 pub fails-at-minus-1 : EachInItsInterval R (0 ∷ 0 ∷ 1 ∷ []) (minus 1 over pos 1) → ⊥
-unfolding EachInItsInterval namedFrom apply fourAt transformationAt intervalAt systemOf closed?
+unfolding EachInItsInterval namedFrom apply transformationBy intervalBy stored closed?
 fails-at-minus-1 e = refused (λ t. t) (e .1 .1 .0)
 
 pub held-fails : HeldInItsInterval R (Digit 1) (pos 1 over pos 2) → ⊥
-unfolding fourAt transformationAt intervalAt systemOf closed?
+unfolding transformationBy intervalBy stored closed?
 held-fails c = refused (λ t. t) c
 
 -- ---- document 01's job
@@ -84,13 +84,13 @@ abbrev matrix : List ℤ
 matrix = pos 2 ∷ pos 1 ∷ pos 1 ∷ pos 2 ∷ []
 
 pub input-names : apply matrix (namedFrom R (0 ∷ 0 ∷ 1 ∷ []) (pos 1 over pos 1)) ≡ pos 9 over pos 12
-unfolding namedFrom apply fourAt transformationAt intervalAt systemOf
+unfolding namedFrom apply transformationBy intervalBy stored
 input-names = refl
 
 pub output-names : namedFrom R (0 ∷ 1 ∷ 1 ∷ []) (apply matrix (pos 1 over pos 1)) ≡ pos 9 over pos 12
-unfolding namedFrom apply fourAt transformationAt intervalAt systemOf
+unfolding namedFrom apply transformationBy intervalBy stored
 output-names = refl
 
 pub output-holds : EachInItsInterval R (0 ∷ 1 ∷ 1 ∷ []) (apply matrix (pos 1 over pos 1))
-unfolding EachInItsInterval namedFrom apply fourAt transformationAt intervalAt systemOf closed?
+unfolding EachInItsInterval namedFrom apply transformationBy intervalBy stored closed?
 output-holds = (computed tt, (computed tt, (computed tt, tt)))

@@ -6,7 +6,7 @@
 use Rattle.whole.proofs.Laws.{_≡_, refl, ap, List, [], _∷_, ℕ, _*_, arith, replicate, ℤ, pos, natAbs, at, gcdBy, gcd, gcd4, first, unlessRefused, up<, within?}
 use Rattle.plane.proofs.Laws.{Point, SamePoint, determinantOf, pseudoinverseOf, apply, multiplyOf, Closed, imageOf, cancelOf, scaleOf, above-not-0}
 use Rattle.inclusion.proofs.Laws.{closed?, same?, included?}
-use Rattle.digits.proofs.Laws.{fourAt, transformationAt, intervalAt, rowsR, systemOf}
+use Rattle.digits.proofs.Laws.{transformationBy, intervalBy, rowsR, stored, systemOf}
 use Rattle.admission.proofs.Laws.{rowVerdict, rowsVerdict, admissionOf, r-admitted}
 use Rattle.runs.proofs.Laws.{follow, runBy, run, judgedRun}
 use Rattle.states.proofs.Laws.{Nothing, Digit, State}
@@ -27,40 +27,40 @@ four a b c d = pos a ∷ pos b ∷ pos c ∷ pos d ∷ []
 
 -- a session on R and R, opened for 2 1 1 2
 abbrev SessionR : List ℕ → List ℕ → State → Type 0
-SessionR taken given s = Session (systemOf rowsR) (systemOf rowsR) (four 2 1 1 2) taken given s
+SessionR taken given s = Session (systemOf (stored rowsR)) (systemOf (stored rowsR)) (four 2 1 1 2) taken given s
 
 pub new : SessionR [] [] (record { matrix = four 2 1 1 2; held = Nothing })
 unfolding openOf within? determinantOf cancelOf gcd4 gcd gcdBy
 new = newly-opened r-admitted r-admitted refl
 
 pub whole-word : SessionR (0 ∷ 0 ∷ 1 ∷ []) (0 ∷ 1 ∷ 1 ∷ []) (record { matrix = four 2 1 1 2; held = Nothing })
-unfolding systemOf admissionOf rowsVerdict rowVerdict within? gcd gcd4 gcdBy fourAt transformationAt intervalAt first unlessRefused closed? same? included? determinantOf
+unfolding stored admissionOf rowsVerdict rowVerdict within? gcd gcd4 gcdBy transformationBy intervalBy first unlessRefused closed? same? included? determinantOf
     pseudoinverseOf apply multiplyOf imageOf cancelOf state? fittingOf follow runBy run refusalOf judgedRun courseOf
 whole-word = called-again new (0 ∷ 0 ∷ 1 ∷ []) (replicate 8 0)
 
 pub half-way : SessionR (0 ∷ 0 ∷ 1 ∷ []) (0 ∷ 1 ∷ []) (record { matrix = four 3 0 1 1; held = Digit 1 })
-unfolding systemOf admissionOf rowsVerdict rowVerdict within? gcd gcd4 gcdBy fourAt transformationAt intervalAt first unlessRefused closed? same? included? determinantOf
+unfolding stored admissionOf rowsVerdict rowVerdict within? gcd gcd4 gcdBy transformationBy intervalBy first unlessRefused closed? same? included? determinantOf
     pseudoinverseOf apply multiplyOf imageOf cancelOf state? fittingOf follow runBy run refusalOf judgedRun courseOf
 half-way = called-again new (0 ∷ 0 ∷ 1 ∷ []) (replicate 2 0)
 
 pub two-calls : SessionR (0 ∷ 0 ∷ 1 ∷ []) (0 ∷ 1 ∷ 1 ∷ []) (record { matrix = four 2 1 1 2; held = Nothing })
-unfolding systemOf admissionOf rowsVerdict rowVerdict within? gcd gcd4 gcdBy fourAt transformationAt intervalAt first unlessRefused closed? same? included? determinantOf
+unfolding stored admissionOf rowsVerdict rowVerdict within? gcd gcd4 gcdBy transformationBy intervalBy first unlessRefused closed? same? included? determinantOf
     pseudoinverseOf apply multiplyOf imageOf cancelOf state? fittingOf follow runBy run refusalOf judgedRun courseOf
 two-calls = called-again half-way [] (replicate 6 0)
 
 -- ---- the product, in plain numbers
 
 pub whole-product : UpToScale (four 4 5 5 7) (four 4 5 5 7)
-unfolding multiplyOf productOf fourAt transformationAt intervalAt systemOf
+unfolding multiplyOf productOf transformationBy intervalBy stored
 whole-product = of-the (session-product whole-word) (0 ∷ 0 ∷ 1 ∷ []) refl
 
 pub half-product : UpToScale (four 4 1 5 2) (four 4 1 5 2)
-unfolding multiplyOf productOf fourAt transformationAt intervalAt systemOf
+unfolding multiplyOf productOf transformationBy intervalBy stored
 half-product = of-the (session-product half-way) (0 ∷ 0 ∷ []) refl
 
 -- the four numbers with the held digit absorbed are no multiple of that
 pub held-not-absorbed : UpToScale (four 4 1 5 2) (multiplyOf (four 2 1 1 2) (productOf R (0 ∷ 0 ∷ 1 ∷ []))) → ⊥
-unfolding multiplyOf productOf fourAt transformationAt intervalAt systemOf scaleOf
+unfolding multiplyOf productOf transformationBy intervalBy stored scaleOf
 held-not-absorbed u =
     let first : u .p * 4 ≡ u .q * 4 = ap (λ (m : List ℤ). natAbs (at m 0)) (u .equal) in
     let second : u .p * 1 ≡ u .q * 5 = ap (λ (m : List ℤ). natAbs (at m 1)) (u .equal) in
@@ -80,7 +80,7 @@ pub record SaysWhole : Type 0 where
   pub digit-1-again : Closed (four 1 1 1 0) (pos 6 over pos 3)
 
 pub whole-numbers : SaysWhole
-unfolding namedFrom EachInItsInterval apply fourAt transformationAt intervalAt systemOf
+unfolding namedFrom EachInItsInterval apply transformationBy intervalBy stored
 whole-numbers =
     let n = of-the (session-named whole-word) (0 ∷ 0 ∷ 1 ∷ []) refl (pos 1 over pos 1) (fraction 1) in
     let each = of-the (session-numbers whole-word) (0 ∷ 0 ∷ 1 ∷ []) refl (pos 1 over pos 1) (fraction 1) holds-at-1 tt in
@@ -93,7 +93,7 @@ pub record SaysHalf : Type 0 where
   pub digit-1 : Closed (four 1 1 1 0) (pos 9 over pos 3)
 
 pub half-numbers : SaysHalf
-unfolding namedFrom EachInItsInterval apply fourAt transformationAt intervalAt systemOf closed?
+unfolding namedFrom EachInItsInterval apply transformationBy intervalBy stored closed?
 half-numbers =
     let n = of-the (session-named half-way) (0 ∷ 0 ∷ []) refl (pos 2 over pos 1) (fraction 2) in
     let each = of-the (session-numbers half-way) (0 ∷ 0 ∷ []) refl (pos 2 over pos 1) (fraction 2) (computed tt, (computed tt, tt)) held-holds in

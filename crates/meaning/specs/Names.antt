@@ -5,8 +5,7 @@ use Prim.Native.Nat.{ℕ, _<_}
 use lib.IntN.{ℤ, pos, _*ℤ_}
 use Rattle.plane.specs.Plane.{Pair, apply, determinantOf, multiplyOf, Closed}
 use Rattle.plane.specs.Scale.{scaleOf, identityOf}
-use Rattle.digits.specs.Types.{System}
-use Rattle.digits.specs.System.{transformation, interval}
+use Rattle.digits.specs.System.{System, transformation, interval}
 use Rattle.states.specs.Types.{Held, Nothing, Digit}
 
 -- the number named from the first of some digits on, where t is named by what follows them

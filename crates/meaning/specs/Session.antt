@@ -6,7 +6,7 @@ use Prim.Native.Nat.{ℕ}
 use lib.ListN.{length}
 use lib.IntN.{ℤ}
 use Rattle.plane.specs.Plane.{Pair, Point, SamePoint, apply, multiplyOf}
-use Rattle.digits.specs.Types.{System}
+use Rattle.digits.specs.System.{System}
 use Rattle.admission.specs.Admitted.{Admissible}
 use Rattle.runs.specs.Run.{Course}
 use Rattle.states.specs.Types.{State, Stop}

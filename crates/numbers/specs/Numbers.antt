@@ -1,15 +1,14 @@
 -- How a plug-in writes a system and a state: as plain numbers.
 use mathlib.Core.Bool.{Bool, cond}
 use mathlib.Core.List.{List, [], _∷_, _++_}
-use Prim.Native.Nat.{ℕ, _/_, _%_}
-use lib.Dec.{eqb, leb, ltb}
-use lib.ListN.{length, replicate}
+use Prim.Native.Nat.{ℕ}
+use lib.Dec.{eqb, ltb}
+use lib.ListN.{length}
 use lib.IntN.{ℤ, pos, negsuc, natAbs}
 use lib.Signed.{ltZ}
 use Rattle.whole.specs.Range.{at}
 use Rattle.plane.specs.Scale.{entries}
-use Rattle.digits.specs.Types.{System}
-use Rattle.digits.specs.BuiltIn.{joined, filled}
+use Rattle.digits.specs.Types.{StoredSystem}
 use Rattle.states.specs.Types.{Held, Nothing, Digit, State, Stop}
 use Rattle.states.specs.State.{refused?}
 
@@ -17,16 +16,15 @@ use Rattle.states.specs.State.{refused?}
 abbrev pub wrongLength : ℕ
 wrongLength = 40
 
--- ---- a system: its rows one behind the other, eight numbers a digit
+-- ---- a system: its count of digits, and 128 numbers in columns
 
--- whole rows: the length is a multiple of 8
-abbrev pub rows? : List ℤ → Bool
-rows? l = eqb (length l % 8) 0
+-- "lent and never copied": what is passed is what would stand in memory
+abbrev pub lentSystem : ℕ → List ℤ → StoredSystem
+lentSystem digits columns = record { count = digits; columns = columns }
 
--- the system that they stand for: as many digits as there are rows, and 0 for the digits that it hasn't got. More than 16 digits are refused by their
--- count, and no row of them is kept.
-unfoldable pub systemFrom : List ℤ → System
-systemFrom l = record { count = length l / 8; rows = cond (leb (length l) 128) (filled l) (replicate 128 (pos 0)) }
+-- "A length other than 128 is 40."
+abbrev pub columns? : List ℤ → Bool
+columns? l = eqb (length l) 128
 
 -- ---- a state: the four entries of the matrix, then the held digit, or −1 for none
 
@@ -56,10 +54,6 @@ pub record Wrote : Type 0 where
 abbrev pub wrote : ℕ → List ℤ → Wrote
 wrote n l = record { number = n; numbers = l }
 
--- ---- a built-in system: its rows, into a slice of exactly as many numbers
-unfoldable pub intoExactly : ℕ → List ℤ → List ℤ → Wrote
-intoExactly n rows old = cond (eqb (length old) n) (wrote 0 rows) (wrote wrongLength old)
-
--- a built-in system, by its table
-unfoldable pub handedOut : List (List ℤ) → List ℤ → Wrote
-handedOut table old = intoExactly (length (joined table)) (joined table) old
+-- ---- a system that is handed out: its numbers, into a slice of exactly as many
+unfoldable pub handedOut : StoredSystem → List ℤ → Wrote
+handedOut s old = cond (columns? old) (wrote 0 (s .columns)) (wrote wrongLength old)

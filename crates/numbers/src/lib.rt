@@ -1,11 +1,12 @@
 // How a plug-in writes a system and a state: as plain numbers in slices of its own. Crates `open_call`, `run_call` and `read_call` have the calls, `plugin` the C functions.
-// A system is its rows, eight numbers a digit; a state is five numbers, the matrix and the held digit or −1.
+// A system is its count of digits and its 128 numbers, in columns; a state is five numbers, the matrix and the held digit or −1.
 ghost use mathlib.Core.Path.{_≡_};
 ghost use mathlib.Core.List.{_++_};
 ghost use Prim.Native.Nat.{_≤_};
-ghost use lib.ListN.{length, take, drop};
+ghost use lib.ListN.{length, drop};
 ghost use Rattle.plane.specs.Scale.{entries};
-ghost use Rattle.numbers.specs.Numbers.{heldNumber, stateNumbers, heldFrom, stateFrom, wrote, intoExactly};
+ghost use Rattle.digits.specs.Orders.{Columns};
+ghost use Rattle.numbers.specs.Numbers.{heldNumber, stateNumbers, heldFrom, stateFrom, wrote, handedOut};
 use digits::System;
 use states::Held;
 use states::State;
@@ -15,28 +16,27 @@ pub const WRONG_LENGTH: u32 = 40;
 
 // ---- a system
 
-// The first numbers of a system's 16 rows, as many as the slice takes: all of them, if it takes 128.
-pub fn put_rows(s: System, to: &mut [i16])
-    requires { ⌜ length (now to) ≤ 128 ⌝ }
-    ensures { λ _. ⌜ (now (to .exit) ≡ take (length (now (to .entry))) (s .rows)) × (length (now (to .entry)) ≡ 128 → now (to .exit) ≡ s .rows) ⌝ }
+// The numbers of a system.
+pub fn put_columns(s: System, to: &mut [i16])
+    requires { ⌜ Columns (now to) ⌝ }
+    ensures { λ _. ⌜ now (to .exit) ≡ s .columns ⌝ }
 {
-    let rows = s.rows;
-    let mut i = 0;
-    while i < to.len() {
-        to[i] = rows[i];
-        i += 1;
+    let columns = s.columns;
+    let mut p = 0;
+    while p < 128 {
+        to[p] = columns[p];
+        p += 1;
     }
 }
 
-// The first n numbers of a system's rows, into a slice of exactly as many.
-pub fn hand_out(s: System, n: usize, rows: &mut [i16]) -> u32
-    requires { ⌜ n ≤ 128 ⌝ }
-    ensures { λ r. ⌜ wrote r (now (rows .exit)) ≡ intoExactly n (take n (s .rows)) (now (rows .entry)) ⌝ }
+// The numbers of a system, into a slice of exactly as many.
+pub fn hand_out(s: System, columns: &mut [i16]) -> u32
+    ensures { λ r. ⌜ wrote r (now (columns .exit)) ≡ handedOut s (now (columns .entry)) ⌝ }
 {
-    if rows.len() != n {
+    if columns.len() != 128 {
         return WRONG_LENGTH;
     }
-    put_rows(s, rows);
+    put_columns(s, columns);
     0
 }
 

@@ -2,7 +2,7 @@
 ghost use mathlib.Core.List.{List};
 ghost use Prim.Native.Nat.{ℕ, _-_};
 ghost use lib.ListN.{drop};
-ghost use Rattle.digits.specs.System.{lent};
+ghost use Rattle.digits.specs.Orders.{lent, Columns};
 ghost use Rattle.steps.specs.Step.{setting, oneWord, emitPlan, plan};
 ghost use Rattle.steps.specs.Made.{Follows, WorksWith, Usable, Ready};
 use fitting::Fitting;
@@ -12,23 +12,23 @@ use steps::Move;
 
 // Lines 4 and 5: the digit h is held. The input system's count does not matter here.
 fn emit(
-    input_rows: &[i16],
+    input_columns: &[i16],
     output_count: usize,
-    output_rows: &[i16],
+    output_columns: &[i16],
     s: State,
     h: u8,
     o: usize,
     room: usize,
 ) -> Move
-    requires { ⌜ (WorksWith (now «input_rows») s h) × (Usable (lent «output_count» (now «output_rows»))) ⌝ }
-    ensures { λ r. ⌜ ((bytes : List ℕ) → Follows (emitPlan (setting (lent 0 (now («input_rows» .entry))) (lent «output_count» (now («output_rows» .entry)))) s h) s (oneWord bytes (room - o)) r) ⌝ }
+    requires { ⌜ (WorksWith (now «input_columns») s h) × (Columns (now «output_columns»)) × (Usable (lent «output_count» (now «output_columns»))) ⌝ }
+    ensures { λ r. ⌜ ((bytes : List ℕ) → Follows (emitPlan (setting (lent 0 (now («input_columns» .entry))) (lent «output_count» (now («output_columns» .entry)))) s h) s (oneWord bytes (room - o)) r) ⌝ }
 {
-    let w = digits::interval(input_rows, h as usize);
+    let w = digits::interval(input_columns, h as usize);
     let x = s.matrix;
     let image = products::image(x, w);
-    match fitting::fitting_digit(output_count, output_rows, image) {
-        Fitting::At(b) => steps::give(output_rows, s, b, o, room),
-        Fitting::Missing => steps::absorb(input_rows, s, h),
+    match fitting::fitting_digit(output_count, output_columns, image) {
+        Fitting::At(b) => steps::give(output_columns, s, b, o, room),
+        Fitting::Missing => steps::absorb(input_columns, s, h),
     }
 }
 
@@ -36,21 +36,21 @@ fn emit(
 // is held. (What is free is not handed over: the loop would keep it beside o.)
 pub fn step(
     input_count: usize,
-    input_rows: &[i16],
+    input_columns: &[i16],
     output_count: usize,
-    output_rows: &[i16],
+    output_columns: &[i16],
     s: State,
     input: &[u8],
     i: usize,
     o: usize,
     room: usize,
 ) -> Move
-    requires { ⌜ Ready (setting (lent «input_count» (now «input_rows»)) (lent «output_count» (now «output_rows»))) s ⌝ }
-    ensures { λ r. ⌜ Follows (plan (setting (lent «input_count» (now («input_rows» .entry))) (lent «output_count» (now («output_rows» .entry)))) s) s (oneWord (drop i (now (input .entry))) (room - o)) r ⌝ }
+    requires { ⌜ (Columns (now «input_columns»)) × (Columns (now «output_columns»)) × (Ready (setting (lent «input_count» (now «input_columns»)) (lent «output_count» (now «output_columns»))) s) ⌝ }
+    ensures { λ r. ⌜ Follows (plan (setting (lent «input_count» (now («input_columns» .entry))) (lent «output_count» (now («output_columns» .entry)))) s) s (oneWord (drop i (now (input .entry))) (room - o)) r ⌝ }
 {
     let held = s.held;
     match held {
         Held::Nothing => steps::load(input_count, s, input, i),
-        Held::Digit(h) => emit(input_rows, output_count, output_rows, s, h, o, room),
+        Held::Digit(h) => emit(input_columns, output_count, output_columns, s, h, o, room),
     }
 }

@@ -1,16 +1,15 @@
--- What sled_admit answers, for all inputs. (The built-in systems: crates/numbers/specs. Opening, a run, reading a job file: the specs of crates
--- open_call, run_call and read_call.)
+-- What sled_admit answers, for all inputs. (The built-in systems: crates/numbers/specs. Turning a system, opening, a run, reading a job file: the
+-- specs of crates columns_call, open_call, run_call and read_call.)
 use mathlib.Core.Bool.{cond}
-use mathlib.Core.List.{List}
 use Prim.Native.Nat.{ℕ}
-use lib.IntN.{ℤ}
-use Rattle.digits.specs.Types.{System}
+use Rattle.digits.specs.Types.{StoredSystem}
+use Rattle.digits.specs.Orders.{systemOf}
 use Rattle.admission.specs.Admission.{refusalNumber, admissionOf}
-use Rattle.numbers.specs.Numbers.{wrongLength, rows?, systemFrom}
+use Rattle.numbers.specs.Numbers.{wrongLength, columns?}
 
-abbrev pub admitted : System → ℕ
-admitted s = refusalNumber (admissionOf s)
+abbrev pub admitted : StoredSystem → ℕ
+admitted s = refusalNumber (admissionOf (systemOf s))
 
 -- nothing is written
-unfoldable pub admitNumber : List ℤ → ℕ
-admitNumber rows = cond (rows? rows) (admitted (systemFrom rows)) wrongLength
+unfoldable pub admitNumber : StoredSystem → ℕ
+admitNumber s = cond (columns? (s .columns)) (admitted s) wrongLength

@@ -1,17 +1,17 @@
 -- A session by the C functions is a session (`plugin-session`): so every sentence of demand 3 holds of what plug-ins do (`plugin-meaning`). The five numbers that a call leaves are those of
 -- the session's state, and are read back as that state (`session-state-back`): its matrix is four numbers, and a held digit is one of at most 16, so it is a byte.
 -- By induction over the calls. No call of a session is refused, so each writes its state back; and what it answers is what `run` answers.
-use Rattle.whole.proofs.Laws.{_≡_, refl, sym, ap, subst, _∙_, Bool, true, false, cond, List, _++_, ℕ, zero, suc, _≤_, arith, length, eqb, ℤ, pos, both-true, eqb-true, unlessRefused}
+use Rattle.whole.proofs.Laws.{_≡_, refl, sym, ap, subst, _∙_, Bool, true, false, cond, List, _++_, ℕ, _≤_, arith, length, eqb, ℤ, pos, both-true, eqb-true}
 use Rattle.plane.proofs.Laws.{entries}
-use Rattle.digits.proofs.Laws.{System}
+use Rattle.digits.proofs.Laws.{StoredSystem, System, systemOf}
 use Rattle.admission.proofs.Laws.{Admitted, Admissible, admissionOf, number-0, admitted-exactly}
 use Rattle.states.proofs.Laws.{Held, Nothing, Digit, State, HeldDigit}
 use Rattle.opening.proofs.Laws.{Opens, openingNumber, openOf, opening-0}
 use Rattle.unary.proofs.Laws.{Ran, runOf, in-range}
 use Rattle.meaning.proofs.Laws.{session-sound, session-accepted, session-product, session-named, session-numbers, newly-opened, called-by-contract}
 use Rattle.meaning.specs.Session.{Session, ProductHolds, NamedHolds, NumbersHold}
-use Rattle.numbers.proofs.Laws.{wrongLength, wrote, systemFrom, stateNumbers, stateAfter, known, Byte, state-back}
-use Rattle.numbers.specs.Numbers.{Wrote, rows?, stateFrom}
+use Rattle.numbers.proofs.Laws.{wrongLength, wrote, written-0, stateNumbers, stateAfter, known, Byte, state-back}
+use Rattle.numbers.specs.Numbers.{Wrote, columns?, stateFrom}
 use Rattle.open_call.proofs.Laws.{openCall}
 use Rattle.open_call.specs.OpenCall.{openLengths?, opened as openedCall}
 use Rattle.run_call.proofs.Laws.{runCall}
@@ -37,15 +37,9 @@ wrong-not-0 : {t : Bool} {n : ℕ} → cond t n wrongLength ≡ 0 → (t ≡ tru
 wrong-not-0 {t = true} e = (refl, e)
 wrong-not-0 {t = false} e = absurd (omega arith)
 
--- what is written where a number is 0
-written-0 : (n : ℕ) (old new : List ℤ) → unlessRefused n (λ k. wrote k old) (wrote 0 new) .number ≡ 0 → (n ≡ 0) × (unlessRefused n (λ k. wrote k old) (wrote 0 new) .numbers ≡ new)
-unfolding unlessRefused
-written-0 zero old new e = (refl, refl)
-written-0 (suc n) old new e = absurd (omega arith)
-
-admits : (rows : List ℤ) → admitNumber rows ≡ 0 → Admissible (systemFrom rows)
+admits : (s : StoredSystem) → admitNumber s ≡ 0 → Admissible (systemOf s)
 unfolding admitNumber
-admits rows e = admitted-exactly (systemFrom rows) Admitted .0 (number-0 (admissionOf (systemFrom rows)) (wrong-not-0 {t = rows? rows} e .1))
+admits s e = admitted-exactly (systemOf s) Admitted .0 (number-0 (admissionOf (systemOf s)) (wrong-not-0 {t = columns? (s .columns)} e .1))
 
 -- a matrix of four numbers that opens, and its state's numbers
 record Opened (m old : List ℤ) : Type 0 where
@@ -74,16 +68,16 @@ opens-call m old e = by-lengths (openLengths? m old) refl e
 
 -- ---- the calls
 
-module _ {input-rows output-rows m : List ℤ} {taken given : List ℕ} {kept : List ℤ} (is : IsSession input-rows output-rows m taken given kept) (input output : List ℕ) where
+module _ {in-system out-system : StoredSystem} {m : List ℤ} {taken given : List ℕ} {kept : List ℤ} (is : IsSession in-system out-system m taken given kept) (input output : List ℕ) where
   abbrev a : System
-  a = systemFrom input-rows
+  a = systemOf in-system
 
   abbrev b : System
-  b = systemFrom output-rows
+  b = systemOf out-system
 
   -- what a call leaves makes a session
   abbrev Leaves : AfterRun → Type 0
-  Leaves r = IsSession input-rows output-rows m (taken ++ bytesTaken input r) (given ++ digitsWritten r) (r .state)
+  Leaves r = IsSession in-system out-system m (taken ++ bytesTaken input r) (given ++ digitsWritten r) (r .state)
 
   -- no call of a session is refused, so it writes its state
   writes : let r = runOf a b (is .state) input output in stateAfter (r .answer .stop) (r .answer .state) kept ≡ stateNumbers (r .answer .state)
@@ -96,9 +90,9 @@ module _ {input-rows output-rows m : List ℤ} {taken given : List ℕ} {kept : 
       let next = called-by-contract input output (r .answer) (r .output) refl refl (is .session) in
       record { state = r .answer .state; session = next; numbers = writes; read-back = ap stateFrom writes ∙ session-state-back next }
 
-  called-is : (counts : List ℕ) → (runCall input-rows output-rows input kept output counts .number ≡ wrongLength → ⊥) → Leaves (runCall input-rows output-rows input kept output counts)
+  called-is : (counts : List ℕ) → (runCall in-system out-system input kept output counts .number ≡ wrongLength → ⊥) → Leaves (runCall in-system out-system input kept output counts)
   unfolding runCall
-  called-is counts right = by (runLengths? input-rows output-rows kept counts) right
+  called-is counts right = by (runLengths? in-system out-system kept counts) right
     where
       ran : Ran
       ran = runOf a b (stateFrom kept) input output
@@ -107,18 +101,17 @@ module _ {input-rows output-rows m : List ℤ} {taken given : List ℕ} {kept : 
       by true f = subst (λ (s : State). Leaves (ranCall (runOf a b s input output) kept)) (sym (is .read-back)) ran-is
       by false f = absurd (f refl)
 
-pub plugin-session : {input-rows output-rows m : List ℤ} {taken given : List ℕ} {kept : List ℤ} → PluginSession input-rows output-rows m taken given kept →
-    IsSession input-rows output-rows m taken given kept
-plugin-session {input-rows} {output-rows} {m} (opened i o old e) =
+pub plugin-session : {a b : StoredSystem} {m : List ℤ} {taken given : List ℕ} {kept : List ℤ} → PluginSession a b m taken given kept → IsSession a b m taken given kept
+plugin-session {a} {b} {m} (opened i o old e) =
     let call = opens-call m old e in
-    let session = newly-opened (admits input-rows i) (admits output-rows o) (call .opens) in
+    let session = newly-opened (admits a i) (admits b o) (call .opens) in
     record { state = openOf m .state; session = session; numbers = call .numbers; read-back = ap stateFrom (call .numbers) ∙ session-state-back session }
 plugin-session (called before input output counts right) = called-is (plugin-session before) input output counts right
 
 -- so all that demand 3 says holds of it
-pub plugin-meaning : {input-rows output-rows m : List ℤ} {taken given : List ℕ} {kept : List ℤ} (p : PluginSession input-rows output-rows m taken given kept) →
-    let a = systemFrom input-rows in
-    let b = systemFrom output-rows in
+pub plugin-meaning : {in-system out-system : StoredSystem} {m : List ℤ} {taken given : List ℕ} {kept : List ℤ} (p : PluginSession in-system out-system m taken given kept) →
+    let a = systemOf in-system in
+    let b = systemOf out-system in
     let s = plugin-session p .state in
     ProductHolds a b m taken given s × NamedHolds a b m taken given s × NumbersHold a b m taken given s
 plugin-meaning p = let session = plugin-session p .session in (session-product session, session-named session, session-numbers session)

@@ -4,13 +4,14 @@ use Prim.Native.Nat.{ℕ}
 use lib.ListN.{take, drop}
 use Rattle.lines.specs.Lines.{answerText, refusedText}
 use Rattle.opening.specs.Opening.{openOf}
+use Rattle.digits.specs.Orders.{systemOf}
 use Rattle.unary.specs.Run.{Ran, runOf}
 use Rattle.jobs.specs.Reading.{readOf}
 use Rattle.jobs.specs.Types.{Verdict, Reads, Refused, Job}
 
 -- the word's bytes in the file, and its run from the opened state
 abbrev pub runIn : List ℕ → Job → List ℕ → Ran
-runIn file j room = runOf (j .input) (j .output) (openOf (j .matrix) .state) (take (j .word .length) (drop (j .word .start) file)) room
+runIn file j room = runOf (systemOf (j .input)) (systemOf (j .output)) (openOf (j .matrix) .state) (take (j .word .length) (drop (j .word .start) file)) room
 
 abbrev pub ranText : Ran → List ℕ
 ranText r = answerText (r .answer) (r .output)

@@ -15,39 +15,39 @@ use Rattle.numbers.specs.Numbers.{wrongLength}
 abbrev pub callNumber : Verdict → ℕ
 callNumber v = verdictNumber v + 256 * verdictSection v
 
--- it is asked only where the lengths are right of what is written over: all rows of two systems, a matrix, and what else is found
+-- it is asked only where the lengths are right of what is written over: the columns of two systems, a matrix, and what else is found
 abbrev pub readLengths? : ℕ → ℕ → ℕ → ℕ → Bool
-readLengths? input-rows output-rows m found = eqb input-rows 128 && eqb output-rows 128 && eqb m 4 && eqb found 4
+readLengths? in-columns out-columns m found = eqb in-columns 128 && eqb out-columns 128 && eqb m 4 && eqb found 4
 
 abbrev pub readNumber : ℕ → ℕ → ℕ → ℕ → Verdict → ℕ
-readNumber input-rows output-rows m found v = cond (readLengths? input-rows output-rows m found) (callNumber v) wrongLength
+readNumber in-columns out-columns m found v = cond (readLengths? in-columns out-columns m found) (callNumber v) wrongLength
 
--- what reading leaves: its answer, the rows of the two systems, the matrix, and what else is found
+-- what reading leaves: its answer, the columns of the two systems, the matrix, and what else is found
 pub record AfterRead : Type 0 where
   pub number : ℕ
-  pub input-rows : List ℤ
-  pub output-rows : List ℤ
+  pub in-columns : List ℤ
+  pub out-columns : List ℤ
   pub matrix : List ℤ
   pub found : List ℕ
 
 abbrev pub afterRead : ℕ → List ℤ → List ℤ → List ℤ → List ℕ → AfterRead
-afterRead n input output m found = record { number = n; input-rows = input; output-rows = output; matrix = m; found = found }
+afterRead n input output m found = record { number = n; in-columns = input; out-columns = output; matrix = m; found = found }
 
--- a job: all 16 rows of each system, 0 for the digits that it hasn't got; the four entries; then the two counts of digits, and where the word starts and
+-- a job: the columns of each system, 0 for the digits that it hasn't got; the four entries; then the two counts of digits, and where the word starts and
 -- how long it is
 abbrev pub foundNumbers : Job → List ℕ
 foundNumbers j = j .input .count ∷ j .output .count ∷ j .word .start ∷ j .word .length ∷ []
 
 abbrev pub jobNumbers : Job → AfterRead
-jobNumbers j = afterRead 0 (j .input .rows) (j .output .rows) (entries (j .matrix)) (foundNumbers j)
+jobNumbers j = afterRead 0 (j .input .columns) (j .output .columns) (entries (j .matrix)) (foundNumbers j)
 
 -- ---- reading a job file: what is read is written where the file reads, and only there
 abbrev pub readingCall : Reading → List ℤ → List ℤ → List ℤ → List ℕ → AfterRead
-readingCall r input-rows output-rows m found =
-    unlessRefused (readNumber (length input-rows) (length output-rows) (length m) (length found) (r .verdict))
-    (λ n. afterRead n input-rows output-rows m found)
+readingCall r in-columns out-columns m found =
+    unlessRefused (readNumber (length in-columns) (length out-columns) (length m) (length found) (r .verdict))
+    (λ n. afterRead n in-columns out-columns m found)
     (jobNumbers (r .job))
 
--- of the file, and then what is written over: the rows of the two systems, the matrix and what else is found
+-- of the file, and then what is written over: the columns of the two systems, the matrix and what else is found
 unfoldable pub readCall : List ℕ → List ℤ → List ℤ → List ℤ → List ℕ → AfterRead
-readCall file input-rows output-rows m found = readingCall (readOf file) input-rows output-rows m found
+readCall file in-columns out-columns m found = readingCall (readOf file) in-columns out-columns m found

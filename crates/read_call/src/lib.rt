@@ -8,15 +8,15 @@ use numbers::WRONG_LENGTH;
 
 // The number that reading answers: 40 where a length is wrong, 0 where the file reads, else the number of the refusal with its section 256 times.
 fn read_number(
-    input_rows: usize,
-    output_rows: usize,
+    in_columns: usize,
+    out_columns: usize,
     matrix: usize,
     found: usize,
     v: Verdict,
 ) -> u32
-    ensures { λ r. ⌜ r ≡ readNumber «input_rows» «output_rows» matrix found v ⌝ }
+    ensures { λ r. ⌜ r ≡ readNumber «in_columns» «out_columns» matrix found v ⌝ }
 {
-    if !((input_rows == 128) & (output_rows == 128) & (matrix == 4) & (found == 4)) {
+    if !((in_columns == 128) & (out_columns == 128) & (matrix == 4) & (found == 4)) {
         return WRONG_LENGTH;
     }
     match v {
@@ -36,20 +36,20 @@ fn put_found(job: Job, found: &mut [usize])
     found[3] = job.word.length;
 }
 
-// A job: all 16 rows of each system, the matrix, and what else is found.
+// A job: the columns of each system, the matrix, and what else is found.
 fn put_job(
     job: Job,
-    input_rows: &mut [i16],
-    output_rows: &mut [i16],
+    in_columns: &mut [i16],
+    out_columns: &mut [i16],
     matrix: &mut [i64],
     found: &mut [usize],
 )
-    requires { ⌜ (length (now «input_rows») ≡ 128) × (length (now «output_rows») ≡ 128) × (length (now matrix) ≡ 4) × (length (now found) ≡ 4) ⌝ }
-    ensures { λ _. ⌜ afterRead 0 (now («input_rows» .exit)) (now («output_rows» .exit)) (now (matrix .exit)) (now (found .exit)) ≡ jobNumbers job ⌝ }
+    requires { ⌜ (length (now «in_columns») ≡ 128) × (length (now «out_columns») ≡ 128) × (length (now matrix) ≡ 4) × (length (now found) ≡ 4) ⌝ }
+    ensures { λ _. ⌜ afterRead 0 (now («in_columns» .exit)) (now («out_columns» .exit)) (now (matrix .exit)) (now (found .exit)) ≡ jobNumbers job ⌝ }
 {
     let m = job.matrix;
-    numbers::put_rows(job.input, input_rows);
-    numbers::put_rows(job.output, output_rows);
+    numbers::put_columns(job.input, in_columns);
+    numbers::put_columns(job.output, out_columns);
     numbers::put_matrix(m, matrix);
     put_found(job, found);
 }
@@ -57,19 +57,19 @@ fn put_job(
 // Reads a job file: 0, and the two systems, the matrix and what else is found are written; or the number of the refusal with its section, and nothing is written.
 pub fn read(
     file: &[u8],
-    input_rows: &mut [i16],
-    output_rows: &mut [i16],
+    in_columns: &mut [i16],
+    out_columns: &mut [i16],
     matrix: &mut [i64],
     found: &mut [usize],
 ) -> u32
-    ensures { λ r. ⌜ afterRead r (now («input_rows» .exit)) (now («output_rows» .exit)) (now (matrix .exit)) (now (found .exit)) ≡
-        readCall (now (file .entry)) (now («input_rows» .entry)) (now («output_rows» .entry)) (now (matrix .entry)) (now (found .entry)) ⌝ }
+    ensures { λ r. ⌜ afterRead r (now («in_columns» .exit)) (now («out_columns» .exit)) (now (matrix .exit)) (now (found .exit)) ≡
+        readCall (now (file .entry)) (now («in_columns» .entry)) (now («out_columns» .entry)) (now (matrix .entry)) (now (found .entry)) ⌝ }
 {
     let reading = jobs::read(file);
     let verdict = reading.verdict;
     let number = read_number(
-        input_rows.len(),
-        output_rows.len(),
+        in_columns.len(),
+        out_columns.len(),
         matrix.len(),
         found.len(),
         verdict,
@@ -77,6 +77,6 @@ pub fn read(
     if number != 0 {
         return number;
     }
-    put_job(reading.job, input_rows, output_rows, matrix, found);
+    put_job(reading.job, in_columns, out_columns, matrix, found);
     0
 }

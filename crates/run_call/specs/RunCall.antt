@@ -7,7 +7,9 @@ use lib.ListN.{length}
 use lib.IntN.{ℤ}
 use Rattle.states.specs.State.{endNumber}
 use Rattle.unary.specs.Run.{Ran, runOf}
-use Rattle.numbers.specs.Numbers.{wrongLength, rows?, systemFrom, stateFrom, stateAfter}
+use Rattle.digits.specs.Types.{StoredSystem}
+use Rattle.digits.specs.Orders.{systemOf}
+use Rattle.numbers.specs.Numbers.{wrongLength, columns?, stateFrom, stateAfter}
 
 -- a run: its answer, the state's five numbers, the bytes of the output, and the two counts, taken and written
 pub record AfterRun : Type 0 where
@@ -23,12 +25,12 @@ abbrev pub ranCall : Ran → List ℤ → AfterRun
 ranCall r old =
     afterRun (endNumber (r .answer .stop)) (stateAfter (r .answer .stop) (r .answer .state) old) (r .output) (r .answer .taken .0 ∷ r .answer .written .0 ∷ [])
 
-abbrev pub runLengths? : List ℤ → List ℤ → List ℤ → List ℕ → Bool
-runLengths? input-rows output-rows old counts = rows? input-rows && rows? output-rows && eqb (length old) 5 && eqb (length counts) 2
+abbrev pub runLengths? : StoredSystem → StoredSystem → List ℤ → List ℕ → Bool
+runLengths? a b old counts = columns? (a .columns) && columns? (b .columns) && eqb (length old) 5 && eqb (length counts) 2
 
 -- of the two systems, the input, and then what is written over: the state, the output and the counts
-unfoldable pub runCall : List ℤ → List ℤ → List ℕ → List ℤ → List ℕ → List ℕ → AfterRun
-runCall input-rows output-rows input old output counts =
-    cond (runLengths? input-rows output-rows old counts)
-    (ranCall (runOf (systemFrom input-rows) (systemFrom output-rows) (stateFrom old) input output) old)
+unfoldable pub runCall : StoredSystem → StoredSystem → List ℕ → List ℤ → List ℕ → List ℕ → AfterRun
+runCall a b input old output counts =
+    cond (runLengths? a b old counts)
+    (ranCall (runOf (systemOf a) (systemOf b) (stateFrom old) input output) old)
     (afterRun wrongLength old output counts)

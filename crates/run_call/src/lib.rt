@@ -2,20 +2,19 @@
 ghost use mathlib.Core.Path.{_≡_};
 ghost use mathlib.Core.Bool.{_&&_};
 ghost use mathlib.Core.List.{[], _∷_};
-ghost use Prim.Native.Nat.{_%_};
 ghost use lib.Dec.{eqb};
 ghost use lib.ListN.{length};
 ghost use Rattle.states.specs.State.{endNumber};
-ghost use Rattle.numbers.specs.Numbers.{stateAfter};
+ghost use Rattle.numbers.specs.Numbers.{lentSystem, stateAfter};
 ghost use Rattle.run_call.specs.RunCall.{afterRun, runCall};
 use numbers::WRONG_LENGTH;
 use unary::Answer;
 
-// Whether the lengths are right of what a run is lent: whole rows of two systems, a state, and two counts.
-fn run_lengths(input_rows: usize, output_rows: usize, state: usize, counts: usize) -> bool
-    ensures { λ r. ⌜ r ≡ (eqb («input_rows» % 8) 0 && eqb («output_rows» % 8) 0 && eqb state 5 && eqb counts 2) ⌝ }
+// Whether the lengths are right of what a run is lent: the columns of two systems, a state, and two counts.
+fn run_lengths(in_columns: usize, out_columns: usize, state: usize, counts: usize) -> bool
+    ensures { λ r. ⌜ r ≡ (eqb «in_columns» 128 && eqb «out_columns» 128 && eqb state 5 && eqb counts 2) ⌝ }
 {
-    (input_rows % 8 == 0) & (output_rows % 8 == 0) & (state == 5) & (counts == 2)
+    (in_columns == 128) & (out_columns == 128) & (state == 5) & (counts == 2)
 }
 
 // An answer: its number; the two counts, taken and written; and the state, unless the run was refused.
@@ -37,27 +36,35 @@ fn put_answer(a: Answer, state: &mut [i64], counts: &mut [usize]) -> u32
 
 // Runs: takes bytes of the input and writes digits to the output until a step stops. Answers why; the state and the two counts, taken and written, are written back.
 pub fn run(
-    input_rows: &[i16],
-    output_rows: &[i16],
+    in_digits: usize,
+    in_columns: &[i16],
+    out_digits: usize,
+    out_columns: &[i16],
     state: &mut [i64],
     input: &[u8],
     output: &mut [u8],
     counts: &mut [usize],
 ) -> u32
     ensures { λ r. ⌜ afterRun r (now (state .exit)) (now (output .exit)) (now (counts .exit)) ≡
-        runCall (now («input_rows» .entry)) (now («output_rows» .entry)) (now (input .entry)) (now (state .entry)) (now (output .entry)) (now (counts .entry)) ⌝ }
+        runCall (lentSystem «in_digits» (now («in_columns» .entry))) (lentSystem «out_digits» (now («out_columns» .entry))) (now (input .entry)) (now (state .entry)) (now (output .entry)) (now (counts .entry)) ⌝ }
 {
     if !run_lengths(
-        input_rows.len(),
-        output_rows.len(),
+        in_columns.len(),
+        out_columns.len(),
         state.len(),
         counts.len(),
     ) {
         return WRONG_LENGTH;
     }
-    let inputs = input_rows.len() / 8;
-    let outputs = output_rows.len() / 8;
     let s = numbers::state_from(state);
-    let a = unary::run_lent(inputs, input_rows, outputs, output_rows, s, input, output);
+    let a = unary::run_lent(
+        in_digits,
+        in_columns,
+        out_digits,
+        out_columns,
+        s,
+        input,
+        output,
+    );
     put_answer(a, state, counts)
 }

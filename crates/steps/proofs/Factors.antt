@@ -7,7 +7,7 @@ use Rattle.states.proofs.Laws.{State}
 use Rattle.steps.specs.Made.{Factors, WorksWith}
 
 -- X·F
-pub absorb-factors : {rows : List ℤ} {s : State} {a : ℕ} → WorksWith rows s a → Factors (s .matrix) (transformationAt rows a)
+pub absorb-factors : {columns : List ℤ} {s : State} {a : ℕ} → WorksWith columns s a → Factors (s .matrix) (transformationAt columns a)
 absorb-factors t = record {
   first = t .in-range;
   second = within-le (t .digit .in-range .numbers-f) tt;
@@ -16,7 +16,7 @@ absorb-factors t = record {
 }
 
 -- pseudoinverse(G)·X
-pub give-factors : {rows : List ℤ} {s : State} {a : ℕ} → WorksWith rows s a → Factors (pseudoinverseOf (transformationAt rows a)) (s .matrix)
+pub give-factors : {columns : List ℤ} {s : State} {a : ℕ} → WorksWith columns s a → Factors (pseudoinverseOf (transformationAt columns a)) (s .matrix)
 give-factors t = record {
   first = within-le (pseudoinverse-within (t .digit .in-range .numbers-f)) tt;
   second = t .in-range;

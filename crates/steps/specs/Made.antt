@@ -8,8 +8,8 @@ use lib.Signed.{_<ℤ_}
 use Rattle.whole.specs.Range.{Within}
 use Rattle.whole.specs.Divisor.{gcd4}
 use Rattle.plane.specs.Plane.{determinantOf, multiplyOf}
-use Rattle.digits.specs.Types.{System}
-use Rattle.digits.specs.System.{transformationAt, intervalAt, DigitThere, Stored}
+use Rattle.digits.specs.System.{System}
+use Rattle.digits.specs.Orders.{transformationAt, intervalAt, DigitThere}
 use Rattle.admission.specs.Admitted.{Digit as IsDigit, Digits}
 use Rattle.runs.specs.Supply.{Supply, nothing}
 use Rattle.runs.specs.Machine.{Outcome, goes, halts}
@@ -56,15 +56,14 @@ pub record Factors (m n : List ℤ) : Type 0 where
   pub divisor : 0 < gcd4 (multiplyOf m n)
 
 -- a digit whose numbers are there, and a state whose matrix it can be multiplied with
-pub record WorksWith (rows : List ℤ) (s : State) (a : ℕ) : Type 0 where
-  pub there : DigitThere rows a
-  pub digit : IsDigit (transformationAt rows a) (intervalAt rows a)
+pub record WorksWith (columns : List ℤ) (s : State) (a : ℕ) : Type 0 where
+  pub there : DigitThere columns a
+  pub digit : IsDigit (transformationAt columns a) (intervalAt columns a)
   pub above : pos 0 <ℤ determinantOf (s .matrix)
   pub in-range : Within 1000000000 (s .matrix)
 
--- a system whose numbers are there, and are digits
+-- a system of digits
 pub record Usable (s : System) : Type 0 where
-  pub stored : Stored s
   pub few : s .count ≤ 16
   pub digits : Digits s
 

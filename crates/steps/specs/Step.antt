@@ -9,8 +9,7 @@ use lib.Dec.{ltb}
 use lib.IntN.{ℤ}
 use Rattle.plane.specs.Plane.{multiplyOf, pseudoinverseOf, imageOf, cancelOf}
 use Rattle.whole.specs.Range.{within?}
-use Rattle.digits.specs.Types.{System}
-use Rattle.digits.specs.System.{transformation, interval}
+use Rattle.digits.specs.System.{System, transformation, interval}
 use Rattle.fitting.specs.FirstFit.{fittingOf}
 use Rattle.runs.specs.Supply.{Supply}
 use Rattle.runs.specs.Machine.{Machine}

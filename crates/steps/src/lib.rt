@@ -6,7 +6,7 @@ ghost use Prim.Native.Nat.{ℕ, _-_};
 ghost use lib.ListN.{drop};
 ghost use Rattle.whole.specs.Range.{within?};
 ghost use Rattle.plane.specs.Plane.{multiplyOf, cancelOf};
-ghost use Rattle.digits.specs.System.{lent};
+ghost use Rattle.digits.specs.Orders.{lent};
 ghost use Rattle.runs.specs.Supply.{Supply};
 ghost use Rattle.states.specs.Types.{RangeLeft};
 ghost use Rattle.steps.specs.Step.{oneWord, loadPlan, givePlan, absorbPlan};
@@ -74,9 +74,9 @@ fn product(m: [i64; 4], n: [i64; 4]) -> [i64; 4]
 }
 
 // Line 4, its second half: the digit b is given out, if a place is free behind the o that are filled.
-pub fn give(rows: &[i16], s: State, b: u8, o: usize, room: usize) -> Move
-    requires { ⌜ WorksWith (now rows) s b ⌝ }
-    ensures { λ r. ⌜ ((bytes : List ℕ) → Follows (givePlan (lent 0 (now (rows .entry))) s b) s (oneWord bytes (room - o)) r) ⌝ }
+pub fn give(columns: &[i16], s: State, b: u8, o: usize, room: usize) -> Move
+    requires { ⌜ WorksWith (now columns) s b ⌝ }
+    ensures { λ r. ⌜ ((bytes : List ℕ) → Follows (givePlan (lent 0 (now (columns .entry))) s b) s (oneWord bytes (room - o)) r) ⌝ }
 {
     if room <= o {
         return Move {
@@ -85,18 +85,18 @@ pub fn give(rows: &[i16], s: State, b: u8, o: usize, room: usize) -> Move
         };
     }
     let x = s.matrix;
-    let g = digits::transformation(rows, b as usize);
+    let g = digits::transformation(columns, b as usize);
     let t = states::given(s, product(plane::pseudoinverse(g), x));
     in_range(s, Kind::Give(b), t)
 }
 
 // Line 5: the held digit h is absorbed.
-pub fn absorb(rows: &[i16], s: State, h: u8) -> Move
-    requires { ⌜ WorksWith (now rows) s h ⌝ }
-    ensures { λ r. ⌜ ((supply : Supply) → Follows (absorbPlan (lent 0 (now (rows .entry))) s h) s supply r) ⌝ }
+pub fn absorb(columns: &[i16], s: State, h: u8) -> Move
+    requires { ⌜ WorksWith (now columns) s h ⌝ }
+    ensures { λ r. ⌜ ((supply : Supply) → Follows (absorbPlan (lent 0 (now (columns .entry))) s h) s supply r) ⌝ }
 {
     let x = s.matrix;
-    let f = digits::transformation(rows, h as usize);
+    let f = digits::transformation(columns, h as usize);
     let t = states::absorbed(s, product(x, f));
     in_range(s, Kind::Absorb, t)
 }

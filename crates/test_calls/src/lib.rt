@@ -1,5 +1,6 @@
 // What the test programs call: each function here makes the calls of one case and prints what was answered.
 ghost use mathlib.Core.Path.{_≡_};
+ghost use Rattle.digits.specs.Orders.{systemOf};
 ghost use Rattle.unary.specs.Run.{runOf};
 use digits::System;
 use states::State;
@@ -16,9 +17,17 @@ pub fn opening(m: [i64; 4]) {
     test_output::state(s);
 }
 
+// A system's rows turned into columns, and these turned back into rows of so many digits.
+pub fn turned(rows: &[i16], columns: &mut [i16], digits: usize, back: &mut [i16]) {
+    test_output::number(columns_call::columns(rows, columns) as u64);
+    test_output::numbers(columns);
+    test_output::number(columns_call::rows(digits, columns, back) as u64);
+    test_output::numbers(back);
+}
+
 // A run. It hands the state on.
 pub fn run(inputs: System, outputs: System, s: State, word: &[u8], room: &mut [u8]) -> State
-    ensures { λ r. ⌜ (r ≡ runOf inputs outputs s (now (word .entry)) (now (room .entry)) .answer .state) × (now (room .exit) ≡ runOf inputs outputs s (now (word .entry)) (now (room .entry)) .output) ⌝ }
+    ensures { λ r. ⌜ (r ≡ runOf (systemOf inputs) (systemOf outputs) s (now (word .entry)) (now (room .entry)) .answer .state) × (now (room .exit) ≡ runOf (systemOf inputs) (systemOf outputs) s (now (word .entry)) (now (room .entry)) .output) ⌝ }
 {
     let a = unary::run(inputs, outputs, s, word, room);
     let t = a.state;

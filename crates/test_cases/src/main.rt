@@ -1,4 +1,4 @@
-// Stored cases over the library's public functions, one line each: runs, sessions, openings, and what is refused. The cases are in the file stdin beside src/, and stdout
+// Stored cases over the library's public functions, one line each: runs, sessions, openings, systems turned from rows into columns and back, and what is refused. The cases are in the file stdin beside src/, and stdout
 // has what must be printed; expected.py writes both, and computes the lines in another way.
 use states::State;
 
@@ -17,6 +17,18 @@ fn run(kind: u8, before: State) -> State {
     test_calls::run(inputs, outputs, s, &word[..n], &mut room[..m])
 }
 
+// Rows, the numbers that stand in the columns before, a count of digits, and those that stand in the rows that are written back.
+fn turned() {
+    let mut rows = [0i16; 160];
+    let n = test_input::numbers(&mut rows);
+    let mut columns = [0i16; 160];
+    let m = test_input::numbers(&mut columns);
+    let digits = test_input::eight() as usize;
+    let mut back = [0i16; 160];
+    let k = test_input::numbers(&mut back);
+    test_calls::turned(&rows[..n], &mut columns[..m], digits, &mut back[..k]);
+}
+
 // A case of any kind, after the state that the case before left.
 fn case(kind: u8, before: State) -> State {
     test_input::label();
@@ -27,6 +39,10 @@ fn case(kind: u8, before: State) -> State {
         }
         b'o' => {
             test_calls::opening(test_input::matrix());
+            before
+        }
+        b't' => {
+            turned();
             before
         }
         _ => run(kind, before),

@@ -1,5 +1,7 @@
 // How the test programs read their cases, part by part, from the standard input. Numbers have their low byte first.
-ghost use Prim.Native.Nat.{_<_};
+ghost use mathlib.Core.Path.{_≡_};
+ghost use Prim.Native.Nat.{_<_, _≤_};
+ghost use lib.ListN.{length, take};
 ghost use Rattle.io.specs.Counts.{Counts};
 use digits::System;
 use libc::STDIN_FILENO;
@@ -56,17 +58,17 @@ pub fn matrix() -> [i64; 4] {
     [signed(), signed(), signed(), signed()]
 }
 
-fn rows() -> [i16; 128] {
-    let mut rows = [0i16; 128];
+fn columns() -> [i16; 128] {
+    let mut columns = [0i16; 128];
     let mut p = 0;
     while p < 128 {
-        rows[p] = short();
+        columns[p] = short();
         p += 1;
     }
-    rows
+    columns
 }
 
-// A built-in system by its letter, or any other by its count and its 128 numbers.
+// A built-in system by its letter, or any other by its count and its 128 numbers, in columns.
 pub fn system() -> System {
     match byte() {
         b'R' => digits::system_r(),
@@ -74,7 +76,7 @@ pub fn system() -> System {
         b'D' => digits::system_d(),
         _ => System {
             count: eight() as usize,
-            rows: rows(),
+            columns: columns(),
         },
     }
 }
@@ -103,6 +105,22 @@ pub fn bytes(buffer: &mut [u8], n: usize) -> usize
         return 0;
     }
     io::read_full(STDIN_FILENO, &mut buffer[..n])
+}
+
+// As many numbers as two bytes before them say, at the start of the buffer; none where it is too short for them. Answers how many came.
+pub fn numbers(buffer: &mut [i16]) -> usize
+    ensures { λ r. ⌜ (r ≤ length (now (buffer .exit))) × (r ≡ length (take r (now (buffer .exit)))) ⌝ }
+{
+    let n = two() as usize;
+    if buffer.len() < n {
+        return 0;
+    }
+    let mut p = 0;
+    while p < n {
+        buffer[p] = short();
+        p += 1;
+    }
+    n
 }
 
 // As many bytes as a byte before them says.

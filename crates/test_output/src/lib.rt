@@ -68,6 +68,15 @@ pub fn pieces(a: Answer) {
     state(s);
 }
 
+pub fn numbers(n: &[i16]) {
+    text(b" |");
+    let mut i = 0;
+    while i < n.len() {
+        signed(n[i] as i64);
+        i += 1;
+    }
+}
+
 pub fn bytes(b: &[u8]) {
     text(b" |");
     let mut i = 0;

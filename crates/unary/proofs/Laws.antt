@@ -4,6 +4,7 @@
 pub use Rattle.unary.proofs.Runs.{accepted-again, CourseInRange, course-in-range, in-range, written-only, run-accepted, refused-untouched, few-steps, few-steps-free}
 pub use Rattle.unary.proofs.Again.{stops-again, cut-anywhere}
 pub use Rattle.unary.proofs.SameRun.{same-course, same-run}
+pub use Rattle.unary.proofs.BothOrders.{same-runs}
 -- the definitions
 pub use Rattle.unary.specs.Run.{Ran}
 pub use Rattle.unary.specs.Ranges.{AnswerInRange}

@@ -1,8 +1,8 @@
 -- "What is kept for the digits a system hasn't got is 0 when it is read, and no answer depends on it": two pairs of systems with the same digits make the same run. They
--- are judged alike (`unused-rows` of crates/admission), and each step is the same (`same-plan` of crates/steps), since what is held stays a digit of the input system.
+-- are judged alike (`same-judgement` of crates/admission), and each step is the same (`same-plan` of crates/steps), since what is held stays a digit of the input system.
 use Rattle.whole.proofs.Laws.{_≡_, sym, ap, _∙_, cond, List, ℕ, length, unlessRefused}
 use Rattle.digits.proofs.Laws.{System, SameDigits}
-use Rattle.admission.proofs.Laws.{refusalNumber, admitted-few, unused-rows}
+use Rattle.admission.proofs.Laws.{refusalNumber, admitted-few, same-judgement}
 use Rattle.runs.proofs.Laws.{Plan, follow, Course, same-runs, either, accepted-run, refused-run}
 use Rattle.states.proofs.Laws.{State, Stop, Refused, HeldDigit}
 use Rattle.steps.proofs.Laws.{setting, plain, oneWord, lawful, same-plan, step-holds}
@@ -10,11 +10,11 @@ use Rattle.judging.proofs.Laws.{state?, refusalOf, accepted}
 use Rattle.unary.specs.Run.{courseOf, leaves, runOf}
 
 module _ (a a′ b b′ : System) (f : SameDigits a a′) (g : SameDigits b b′) (s : State) where
-  same-refusal : refusalOf (setting a b) s ≡ refusalOf (setting a′ b′) s
+  pub same-refusal : refusalOf (setting a b) s ≡ refusalOf (setting a′ b′) s
   unfolding refusalOf
   same-refusal =
-      let p = unused-rows f in
-      let q = unused-rows g in
+      let p = same-judgement a a′ f in
+      let q = same-judgement b b′ g in
       λ i. unlessRefused (refusalNumber (p i)) (λ n. n) (unlessRefused (refusalNumber (q i)) (λ n. n) (cond (state? (f .count i) s) 0 12))
 
   pub same-course : (input : List ℕ) (room : ℕ) → courseOf a b s input room ≡ courseOf a′ b′ s input room

@@ -5,7 +5,7 @@ use mathlib.Core.List.{List}
 use mathlib.Core.Logic.{_⊎_}
 use Prim.Native.Nat.{ℕ, _≤_, _<_}
 use lib.ListN.{length, getD, drop}
-use Rattle.digits.specs.Types.{System}
+use Rattle.digits.specs.System.{System}
 use Rattle.states.specs.Types.{State}
 use Rattle.states.specs.State.{StateRules, StepEnd, endNumber}
 use Rattle.steps.specs.Step.{setting}

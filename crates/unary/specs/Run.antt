@@ -2,7 +2,7 @@
 use mathlib.Core.List.{List, _++_}
 use Prim.Native.Nat.{ℕ, suc, _+_}
 use lib.ListN.{length, take, drop}
-use Rattle.digits.specs.Types.{System}
+use Rattle.digits.specs.System.{System}
 use Rattle.runs.specs.Supply.{written}
 use Rattle.runs.specs.Run.{Course, run, judgedRun}
 use Rattle.states.specs.Types.{State, Stop, Refused}

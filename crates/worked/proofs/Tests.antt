@@ -2,7 +2,7 @@
 use Rattle.whole.proofs.Laws.{_≡_, refl, Bool, true, not, false≢true, List, [], _∷_, ℕ, eqb-true, not-true, eqb, length, take, replicate, ℤ, pos, ltZ, lt-true}
 use Rattle.plane.proofs.Laws.{det, left, right, Interval}
 use Rattle.inclusion.proofs.Laws.{closed?, included?, included-says, not-included-says, closed-says}
-use Rattle.digits.proofs.Laws.{systemOf}
+use Rattle.digits.proofs.Laws.{stored, systemOf}
 use Rattle.admission.proofs.Laws.{refusalNumber, admitted-says}
 use Rattle.states.proofs.Laws.{Nothing, endNumber}
 use Rattle.opening.proofs.Laws.{Opening, Opens, OutOfRange, NotAbove, Start, openingNumber, openOf, opens}
@@ -70,7 +70,7 @@ opening-holds m number x e =
     }
 
 judged-holds : (rows : List (List ℤ)) (number : ℕ) → eqb (refusalNumber (judgedOf rows)) number ≡ true → IsJudged rows number
-judged-holds rows number e = record { answer = eqb-true (refusalNumber (judgedOf rows)) number e; reason = admitted-says (systemOf rows) }
+judged-holds rows number e = record { answer = eqb-true (refusalNumber (judgedOf rows)) number e; reason = admitted-says (systemOf (stored rows)) }
 
 -- ---- a job's run
 

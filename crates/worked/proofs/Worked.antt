@@ -3,7 +3,7 @@
 use Rattle.whole.proofs.Laws.{_≡_, refl, sym, subst, Bool, true, _&&_, List, [], _∷_, gcdBy, gcd, gcd4, first, both-true, unlessRefused, within?}
 use Rattle.plane.proofs.Laws.{apply, determinantOf, pseudoinverseOf, multiplyOf, imageOf, cancelOf}
 use Rattle.inclusion.proofs.Laws.{closed?, same?, included?}
-use Rattle.digits.proofs.Laws.{fourAt, transformationAt, intervalAt, systemOf}
+use Rattle.digits.proofs.Laws.{transformationBy, intervalBy, rowsIn, stored}
 use Rattle.admission.proofs.Laws.{rowVerdict, rowsVerdict, admissionOf}
 use Rattle.runs.proofs.Laws.{follow, runBy, run, judgedRun}
 use Rattle.fitting.proofs.Laws.{fittingOf}
@@ -33,8 +33,8 @@ passed (d ∷ ds) e c k =
     ⊎-elim (λ q. subst Says (sym q) (holds d (p .0))) (λ m. passed ds (p .1) c m) k
 
 computed : allPass? table ≡ true
-unfolding gcdBy gcd gcd4 apply determinantOf pseudoinverseOf multiplyOf imageOf cancelOf closed? same? included? first fourAt within? rowVerdict rowsVerdict
-    admissionOf systemOf state? openOf unlessRefused transformationAt intervalAt fittingOf follow runBy run refusalOf judgedRun courseOf runOf
+unfolding gcdBy gcd gcd4 apply determinantOf pseudoinverseOf multiplyOf imageOf cancelOf closed? same? included? first within? rowVerdict rowsVerdict
+    admissionOf rowsIn stored state? openOf unlessRefused transformationBy intervalBy fittingOf follow runBy run refusalOf judgedRun courseOf runOf
     presence numberOf signed numbersIn readingOf readOf digitsBy decimal signedText heldText stateLine countsLine digitsLine answerText printed
 computed = refl
 

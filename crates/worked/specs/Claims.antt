@@ -12,7 +12,8 @@ use Rattle.plane.specs.Plane.{left, right, Interval, Closed}
 use Rattle.inclusion.specs.Inclusion.{Included}
 use Rattle.admission.specs.Admission.{refusalNumber, admissionOf}
 use Rattle.admission.specs.Admitted.{SystemCase}
-use Rattle.digits.specs.BuiltIn.{systemOf}
+use Rattle.digits.specs.Orders.{systemOf}
+use Rattle.digits.specs.BuiltIn.{stored}
 use Rattle.admission.specs.Types.{Admission}
 use Rattle.runs.specs.Supply.{Supply, spend}
 use Rattle.runs.specs.Machine.{Outcome, goes, halts, mostSteps}
@@ -45,11 +46,11 @@ pub record Ending : Type 0 where
 
 -- the system that a table of rows is laid out as, judged
 abbrev pub judgedOf : List (List ℤ) → Admission
-judgedOf rows = admissionOf (systemOf rows)
+judgedOf rows = admissionOf (systemOf (stored rows))
 
 -- the run of a job, from the state that its matrix opens as
 abbrev pub ranOf : Job → Ran
-ranOf j = runOf (systemOf (j .input)) (systemOf (j .output)) (openOf (j .matrix) .state) (j .word) (replicate (j .room) 0)
+ranOf j = runOf (systemOf (stored (j .input))) (systemOf (stored (j .output))) (openOf (j .matrix) .state) (j .word) (replicate (j .room) 0)
 
 -- the divisors by which the steps of a run are cancelled, in their order (`divisorOf`, crates/meaning/specs: where a byte is taken in it is 1)
 abbrev pub divisorsAfter : (State → Supply → List ℕ) → Setting → State → Supply → Outcome State Stop → List ℕ
@@ -63,14 +64,14 @@ divisorsBy y (suc k) s r = divisorsAfter (divisorsBy y k) y s r (plain y .step s
 
 abbrev pub divisorsOf : Job → List ℕ
 divisorsOf j =
-    let y = setting (systemOf (j .input)) (systemOf (j .output)) in
+    let y = setting (systemOf (stored (j .input))) (systemOf (stored (j .output))) in
     let s = openOf (j .matrix) .state in
     let r = oneWord (j .word) (j .room) in
     divisorsBy y (suc (mostSteps (plain y) s r)) s r
 
 -- the job's file
 abbrev pub fileOf : Job → List ℕ
-fileOf j = layoutOf (record { input = systemOf (j .input); output = systemOf (j .output); matrix = j .matrix; word = j .word })
+fileOf j = layoutOf (record { input = stored (j .input); output = stored (j .output); matrix = j .matrix; word = j .word })
 
 -- ---- what each claim says
 
@@ -98,7 +99,7 @@ pub record IsOpened (m : List ℤ) (number : ℕ) (x : List ℤ) : Type 0 where
 -- the judgement of a system answers this number, 0 or a refusal's, for the reason that document 01 gives
 pub record IsJudged (rows : List (List ℤ)) (number : ℕ) : Type 0 where
   pub answer : refusalNumber (judgedOf rows) ≡ number
-  pub reason : SystemCase (systemOf rows) (judgedOf rows)
+  pub reason : SystemCase (systemOf (stored rows)) (judgedOf rows)
 
 -- the job's matrix opens, and its run ends so
 pub record IsEnded (j : Job) (e : Ending) : Type 0 where

@@ -1,6 +1,6 @@
 -- `admission::rows_verdict` meets its contract: a search for the first row that is refused; where there is none, every interval is small enough for the cover test.
 use Rattle.whole.proofs.Laws.{needs, _≡_, sym, ap, ap₂, _∙_, Bool, not, cond, none, ℕ, _-_, arith, eq-eqb, ne-eqb, now, first, Standing, begins, misses, hits, ends, first-none}
-use Rattle.digits.proofs.Laws.{System, lent, DigitThere, stored-there}
+use Rattle.digits.proofs.Laws.{System, lent, DigitThere, digit-there}
 use Rattle.admission.specs.Types.{Admitted, Uncovered}
 use Rattle.admission.specs.Admission.{refusalNumber, refused?, rowVerdict, verdictOfRow, firstVerdict, rowsVerdict}
 use Rattle.admission.proofs.AdmittedSays.{digit-says, small}
@@ -11,17 +11,17 @@ abbrev test : System → ℕ → Bool
 test s a = refused? (verdictOfRow s a)
 
 abbrev Inv-loop : tie.InvT-loop
-Inv-loop n rows a₀ a = Standing (test (lent n rows)) n a
+Inv-loop n columns a₀ a = Standing (test (lent n columns)) n a
 
 abbrev μ-loop : tie.MeasureT-loop
-μ-loop n rows a₀ a = n - a
+μ-loop n columns a₀ a = n - a
 
 -- the system that is judged
 abbrev of : tie.Start Inv-loop μ-loop → System
-of c = lent (c .args .n) (now (c .args .rows))
+of c = lent (c .args .n) (now (c .args .columns))
 
-there : (c : tie.In-loop Inv-loop μ-loop) → DigitThere (now (c .before .before .args .rows)) (c .before .loop .a)
-there c = let p = c .before .before .pre in stored-there (p .0) (p .1) (c .loop-test .taken)
+there : (c : tie.In-loop Inv-loop μ-loop) → DigitThere (now (c .before .before .args .columns)) (c .before .loop .a)
+there c = let p = c .before .before .pre in digit-there (p .0) (p .1) (c .loop-test .taken)
 
 -- what the calls in the loop say: the verdict of row a, and whether it is refused
 verdict : (c : tie.After-row-verdict Inv-loop μ-loop) → let l = c .before .before .before .before in c .row-verdict .result ≡ verdictOfRow (of (l .before)) (l .loop .a)

@@ -5,7 +5,7 @@ use mir.Val.{SFits}
 use Rattle.digits.proofs.number_at.Statement.{statement}
 use Rattle.digits.proofs.number_at.Tie as tie
 
-fits : (c : tie.After-result) → SFits w16 (at (now (c .before .args .rows)) (c .before .args .p))
+fits : (c : tie.After-result) → SFits w16 (at (now (c .before .args .columns)) (c .before .args .p))
 fits c = element-16 _ (c .result .given)
 
 pub number-at-spec : {M : Type 1} → statement M

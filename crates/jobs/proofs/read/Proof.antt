@@ -1,6 +1,6 @@
 -- `jobs::read` meets its contract: the number of the first section that is refused, or 2, or the job. Behind each section that passes, the rest of the file decides (`Reached`).
 use Rattle.whole.proofs.Laws.{needs, _≡_, refl, sym, ap, _∙_, List, inl, inr, ℕ, _+_, _*_, eq-zero-or-pos, arith, length, drop, length-drop, length-take-le, now}
-use Rattle.digits.proofs.Laws.{System}
+use Rattle.digits.proofs.Laws.{StoredSystem}
 use Rattle.sections.proofs.Laws.{countOf, sizeOf, presence, Present, valueOf, nothing, _then_, Taken, Answered, present, not-there, answered, Reached, at-0, left, start, stops, goes, ended, followed}
 use Rattle.jobs.specs.Types.{Reads, Reading}
 use Rattle.job_sections.proofs.Laws.{system, matrix, word}
@@ -68,7 +68,7 @@ returns-5 c =
     c .refused5 .ensures ∙
     followed (goes h (word-answered (f .before .presence .ensures)) refl (f .if4 .left)) (omega (arith, left h, n .pair-at .ensures, c .before .if5 .taken))
 
-system-size : {bytes : List ℕ} {n : ℕ} {s : System} → Taken system bytes n s → n ≡ bytesOf s
+system-size : {bytes : List ℕ} {n : ℕ} {s : StoredSystem} → Taken system bytes n s → n ≡ bytesOf s
 system-size t = t .size ∙ ap bytesOf (sym (t .value))
 
 returns-6 : tie.Need-returns-6

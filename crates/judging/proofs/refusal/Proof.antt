@@ -11,10 +11,10 @@ abbrev twelve : Bool → ℕ
 twelve t = cond t 0 12
 
 -- the numbers of the two systems
-input-number : (c : tie.After-refusal-number) → let a = c .before .before .args in c .refusal-number .result ≡ refusalNumber (admissionOf (lent (a .input-count) (now (a .input-rows))))
+input-number : (c : tie.After-refusal-number) → let a = c .before .before .args in c .refusal-number .result ≡ refusalNumber (admissionOf (lent (a .input-count) (now (a .input-columns))))
 input-number c = c .refusal-number .ensures ∙ ap refusalNumber (c .before .admission-of .ensures)
 
-output-number : (c : tie.After-refusal-number2) → let a = c .before .before .before .before .before .args in c .refusal-number2 .result ≡ refusalNumber (admissionOf (lent (a .output-count) (now (a .output-rows))))
+output-number : (c : tie.After-refusal-number2) → let a = c .before .before .before .before .before .args in c .refusal-number2 .result ≡ refusalNumber (admissionOf (lent (a .output-count) (now (a .output-columns))))
 output-number c = c .refusal-number2 .ensures ∙ ap refusalNumber (c .before .admission-of2 .ensures)
 
 returns : tie.Need-returns
@@ -22,10 +22,10 @@ unfolding refusalOf
 returns c = input-number (c .before) ∙ sym (decided _ _ (λ z. c .if1 .taken (input-number (c .before) ∙ z)))
 
 -- the input system is admitted, and so is the output system
-input-passes : (c : tie.Else1) → let a = c .before .before .before .args in refusalNumber (admissionOf (lent (a .input-count) (now (a .input-rows)))) ≡ 0
+input-passes : (c : tie.Else1) → let a = c .before .before .before .args in refusalNumber (admissionOf (lent (a .input-count) (now (a .input-columns)))) ≡ 0
 input-passes c = sym (input-number (c .before)) ∙ c .if1 .left
 
-output-passes : (c : tie.Else2) → let a = c .before .before .before .before .before .before .args in refusalNumber (admissionOf (lent (a .output-count) (now (a .output-rows)))) ≡ 0
+output-passes : (c : tie.Else2) → let a = c .before .before .before .before .before .before .args in refusalNumber (admissionOf (lent (a .output-count) (now (a .output-columns)))) ≡ 0
 output-passes c = sym (output-number (c .before)) ∙ c .if2 .left
 
 returns-2 : tie.Need-returns-2

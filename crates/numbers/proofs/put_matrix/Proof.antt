@@ -1,6 +1,6 @@
 -- `numbers::put_matrix` meets its contract. The invariant: the first i numbers are copied.
-use Rattle.whole.proofs.Laws.{needs, _≡_, refl, ap, _∙_, _++_, ℕ, _-_, _≤_, arith, pos, take, drop, now, ok-back}
-use Rattle.numbers.proofs.Lists.{Copied, copy-one, known}
+use Rattle.whole.proofs.Laws.{needs, _≡_, ap, _∙_, _++_, ℕ, _-_, _≤_, arith, pos, take, drop, now, ok-back, Copied, copy-none, copy-one}
+use Rattle.numbers.proofs.Lists.{known}
 use Rattle.numbers.proofs.put_matrix.Statement.{statement}
 use Rattle.numbers.proofs.put_matrix.Tie as tie
 
@@ -21,5 +21,5 @@ returns c =
     c .before .loop .inv .1 .is ∙ ap (λ (n : ℕ). take n m ++ drop n old) four ∙ rw (known (pos 0) 4 m (search needs))
 
 pub put-matrix-spec : {M : Type 1} → statement M
-put-matrix-spec = tie.close (tie.spec Inv-loop μ-loop (λ c. (search needs, record { same-length = refl; is = refl })) (λ c. search needs) (λ c. search needs)
+put-matrix-spec = tie.close (tie.spec Inv-loop μ-loop (λ c. (search needs, copy-none)) (λ c. search needs) (λ c. search needs)
     (λ c. search needs) (λ c. search needs) (λ c. search needs) (λ c. search needs) loop-again (λ c. search needs) returns)

@@ -1,7 +1,7 @@
 -- `one_step::emit` meets its contract: lines 4 and 5 of a step. The image is formed once; a digit that fits is given out, and where none does the held one is absorbed.
 use Rattle.whole.proofs.Laws.{needs, _≡_, refl, sym, ap, subst, _∙_, List, Option, none, some, ℕ, _-_, arith, now, Within, within-le}
 use Rattle.plane.proofs.Laws.{imageOf, image-within}
-use Rattle.digits.proofs.Laws.{lent, stored-there}
+use Rattle.digits.proofs.Laws.{lent, digit-there}
 use Rattle.admission.proofs.Laws.{small}
 use Rattle.fitting.proofs.Laws.{At, Missing, fitting, fittingOf}
 use Rattle.steps.proofs.Laws.{Move, Setting, setting, oneWord, chosen, heldPlan, Follows, chosen-below}
@@ -24,7 +24,7 @@ image-requires c κs =
 
 -- the setting, and the image that was formed
 abbrev pair : tie.After-image → Setting
-pair c = let a = c .before .before .before .args in setting (lent 0 (now (a .input-rows))) (lent (a .output-count) (now (a .output-rows)))
+pair c = let a = c .before .before .before .args in setting (lent 0 (now (a .input-columns))) (lent (a .output-count) (now (a .output-columns)))
 
 is : (c : tie.After-image) → let a = c .before .before .before .args in fittingOf (pair c .output) (c .image .result) ≡ chosen (pair c) (a .s) (a .h)
 is c = ap (fittingOf (pair c .output)) (c .image .ensures ∙ ap (imageOf (c .before .before .before .args .s .matrix)) (c .before .before .interval .ensures))
@@ -34,7 +34,7 @@ fitting-digit-requires c κs =
     let p = c .before .before .before .pre in
     let t = p .0 in
     let image = c .image .ensures ∙ ap (imageOf (c .before .before .before .args .s .matrix)) (c .before .before .interval .ensures) in
-    (p .1 .stored, p .1 .few, small _ (p .1 .digits), subst (Within 200000000000) (sym image) (within-le (image-within (t .in-range) (t .digit .in-range .numbers-w)) tt))
+    (p .1, p .2 .few, small _ (p .2 .digits), subst (Within 200000000000) (sym image) (within-le (image-within (t .in-range) (t .digit .in-range .numbers-w)) tt))
 
 -- what was found
 found : (c : tie.After-fitting-digit) → let a = c .before .before .before .before .args in c .fitting-digit .result ≡ fitting (chosen (pair (c .before)) (a .s) (a .h))
@@ -52,7 +52,7 @@ give-requires c κs =
     let p = d .before .before .before .before .pre in
     let a = d .before .before .before .before .args in
     let below = chosen-below (pair (d .before)) (a .s) (a .h) _ (given d _ (c .before .b .given .1)) in
-    record { there = stored-there (p .1 .stored) (p .1 .few) below; digit = p .1 .digits _ below; above = p .0 .above; in-range = p .0 .in-range }
+    record { there = digit-there (p .1) (p .2 .few) below; digit = p .2 .digits _ below; above = p .0 .above; in-range = p .0 .in-range }
 
 -- the plan, by the choice
 abbrev by : (c : tie.After-fitting-digit) → Move → List ℕ → Option ℕ → Type 0

@@ -1,44 +1,44 @@
 -- `one_step::step` meets its contract, by the two cases of what is held.
 use Rattle.whole.proofs.Laws.{needs, _≡_, refl, sym, subst, List, Option, none, some, ℕ, _-_, _<_, drop, ℤ, now}
-use Rattle.digits.proofs.Laws.{System, lent, stored-there}
+use Rattle.digits.proofs.Laws.{System, Columns, lent, digit-there}
 use Rattle.runs.proofs.Laws.{Supply, Plan}
 use Rattle.states.proofs.Laws.{Held, Digit, State, Stop, HeldDigit}
-use Rattle.steps.proofs.Laws.{Move, Setting, setting, oneWord, chosen, heldPlan, emitPlan, planBy, Follows, WorksWith, Ready}
+use Rattle.steps.proofs.Laws.{Move, setting, oneWord, chosen, heldPlan, emitPlan, planBy, Follows, WorksWith, Ready}
 use Rattle.one_step.proofs.step.Statement.{statement}
 use Rattle.one_step.proofs.step.Tie as tie
 
 -- the held digit is one of the input system, and can be worked with
-works : {y : Setting} {s : State} {h : ℕ} → Ready y s → s .held ≡ Digit h → WorksWith (y .input .rows) s h
-works {y} {s} {h} r e =
-    let below : h < y .input .count = subst (HeldDigit (y .input .count)) e (r .state .held-digit) in
-    record { there = stored-there (r .input .stored) (r .input .few) below; digit = r .input .digits h below; above = r .state .above; in-range = r .state .in-range }
+works : {n : ℕ} {columns : List ℤ} {b : System} {s : State} {h : ℕ} → Columns columns → Ready (setting (lent n columns) b) s → s .held ≡ Digit h → WorksWith columns s h
+works {n} {s = s} {h} there r e =
+    let below : h < n = subst (HeldDigit n) e (r .state .held-digit) in
+    record { there = digit-there there (r .input .few) below; digit = r .input .digits h below; above = r .state .above; in-range = r .state .in-range }
 
 emit-requires : tie.Need-emit-requires
-emit-requires c κs = let r = c .before .before .before .before .pre in (works r (c .before .held .given .1), r .output)
+emit-requires c κs = let p = c .before .before .before .before .pre in (works (p .0) (p .2) (c .before .held .given .1), p .1, p .2 .output)
 
 -- the plan, by what is held
 abbrev by : tie.Start → Move → Held → Type 0
 by s m h = let a = s .args in
-    Follows (planBy (setting (lent (a .input-count) (now (a .input-rows))) (lent (a .output-count) (now (a .output-rows)))) (a .s) h) (a .s) (oneWord (drop (a .i) (now (a .input))) (a .room - a .o)) m
+    Follows (planBy (setting (lent (a .input-count) (now (a .input-columns))) (lent (a .output-count) (now (a .output-columns)))) (a .s) h) (a .s) (oneWord (drop (a .i) (now (a .input))) (a .room - a .o)) m
 
 returns : tie.Need-returns
 returns c = let s = c .before .before .before .before in subst (by s (c .load .result)) (sym (c .before .enum-told .given .1)) (c .load .ensures _)
 
 -- the input system's count does not matter where a digit is held
-count-free : (n : ℕ) (rows : List ℤ) (b : System) (s : State) (h : ℕ) (o : Option ℕ) → heldPlan (setting (lent 0 rows) b) s h o ≡ heldPlan (setting (lent n rows) b) s h o
-count-free n rows b s h none = refl
-count-free n rows b s h (some d) = refl
+count-free : (n : ℕ) (columns : List ℤ) (b : System) (s : State) (h : ℕ) (o : Option ℕ) → heldPlan (setting (lent 0 columns) b) s h o ≡ heldPlan (setting (lent n columns) b) s h o
+count-free n columns b s h none = refl
+count-free n columns b s h (some d) = refl
 
-emit-free : (n : ℕ) (rows : List ℤ) (b : System) (s : State) (h : ℕ) {before : Supply} {m : Move} →
-    Follows (emitPlan (setting (lent 0 rows) b) s h) s before m → Follows (emitPlan (setting (lent n rows) b) s h) s before m
-emit-free n rows b s h {before} {m} f = subst (λ (p : Plan State Stop). Follows p s before m) (count-free n rows b s h (chosen (setting (lent n rows) b) s h)) f
+emit-free : (n : ℕ) (columns : List ℤ) (b : System) (s : State) (h : ℕ) {before : Supply} {m : Move} →
+    Follows (emitPlan (setting (lent 0 columns) b) s h) s before m → Follows (emitPlan (setting (lent n columns) b) s h) s before m
+emit-free n columns b s h {before} {m} f = subst (λ (p : Plan State Stop). Follows p s before m) (count-free n columns b s h (chosen (setting (lent n columns) b) s h)) f
 
 returns-2 : tie.Need-returns-2
 returns-2 c =
     let s = c .before .before .before .before .before in
     let a = s .args in
     subst (by s (c .emit .result)) (sym (c .before .before .held .given .1))
-    (emit-free (a .input-count) (now (a .input-rows)) (lent (a .output-count) (now (a .output-rows))) (a .s) _ (c .emit .ensures (drop (a .i) (now (a .input)))))
+    (emit-free (a .input-count) (now (a .input-columns)) (lent (a .output-count) (now (a .output-columns))) (a .s) _ (c .emit .ensures (drop (a .i) (now (a .input)))))
 
 pub step-spec : {M : Type 1} → statement M
 step-spec = tie.close (tie.spec (λ c. search needs) (λ c κs. search needs) (λ c. search needs) emit-requires returns returns-2)

@@ -1,6 +1,7 @@
 -- `printed::respond` meets its contract: the file's refusal, or the run of the job that was read. The word lies inside the file, and what the run has written inside the
 -- room.
 use Rattle.whole.proofs.Laws.{needs, _≡_, refl, sym, ap, ap₂, _∙_, subst, List, ℕ, _+_, _-_, _≤_, arith, length, take, drop, length-append, length-take-le, now}
+use Rattle.digits.proofs.Laws.{systemOf}
 use Rattle.unary.proofs.Laws.{Ran, runOf, Answer, in-range}
 use Rattle.opening.proofs.Laws.{openOf, Start}
 use Rattle.job_sections.proofs.Laws.{Bytes}
@@ -57,7 +58,7 @@ ran c =
     let j = r .read .result .job in
     let n : j .word .start + j .word .length - j .word .start ≡ j .word .length = omega arith in
     ap₂ ran-of (c .run .ensures .0) (c .run .ensures .1) ∙
-    ap₂ (λ (st : Start) (k : ℕ). runOf (j .input) (j .output) (st .state) (take k (drop (j .word .start) file)) digits) (o .«open» .ensures) n ∙
+    ap₂ (λ (st : Start) (k : ℕ). runOf (systemOf (j .input)) (systemOf (j .output)) (st .state) (take k (drop (j .word .start) file)) digits) (o .«open» .ensures) n ∙
     ap (λ (a : Reading). runIn file (a .job) digits) (r .read .ensures)
 
 returns : tie.Need-returns
@@ -73,7 +74,7 @@ put-answer-requires c κs =
     let s = x .before .before .before .before .before .before .before .before .before .before .before .before .before .before .before in
     let file = now (s .args .file) in
     let j = readOf file .job in
-    let i = in-range (j .input) (j .output) (openOf (j .matrix) .state) (take (j .word .length) (drop (j .word .start) file)) (now (s .args .digits)) in
+    let i = in-range (systemOf (j .input)) (systemOf (j .output)) (openOf (j .matrix) .state) (take (j .word .length) (drop (j .word .start) file)) (now (s .args .digits)) in
     subst (λ (a : Ran). (40000 ≤ length (now (s .args .out))) × (length (a .output) ≤ 8192) × (a .answer .written .0 ≤ length (a .output))) (sym (ran x))
     (s .pre .1, omega (arith, i .room, s .pre), omega (arith, i .room, i .written))
 

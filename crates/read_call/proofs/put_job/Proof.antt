@@ -12,10 +12,8 @@ returns c =
     let out = m .before .before .before in
     let inp = out .before .before .before in
     let s = inp .before .before .before .before in
-    let ins = inp .put-rows .ensures .1 (s .pre .0) in
-    let outs = out .put-rows2 .ensures .1 (s .pre .1) in
     let four = rw (known (pos 0) 4 (now (s .args .matrix)) (s .pre .2)) at (m .put-matrix .ensures) in
-    λ i. afterRead 0 (ins i) (outs i) (four i) (f .put-found .ensures i)
+    λ i. afterRead 0 (inp .put-columns .ensures i) (out .put-columns2 .ensures i) (four i) (f .put-found .ensures i)
 
 pub put-job-spec : {M : Type 1} → statement M
 put-job-spec = tie.close (tie.spec (λ c κs. search needs) (λ c κs. search needs) (λ c κs. search needs) (λ c κs. search needs) (λ c. search needs)

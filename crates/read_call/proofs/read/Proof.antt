@@ -6,8 +6,8 @@ use Rattle.read_call.proofs.read.Statement.{statement}
 use Rattle.read_call.proofs.read.Tie as tie
 
 judged : (n : tie.After-read-number) → let r = n .before in let a = r .before .before .before .args in
-    readCall (now (a .file)) (now (a .input-rows)) (now (a .output-rows)) (now (a .matrix)) (now (a .found))
-    ≡ unlessRefused (n .read-number .result) (λ k. afterRead k (now (a .input-rows)) (now (a .output-rows)) (now (a .matrix)) (now (a .found))) (jobNumbers (r .read .result .job))
+    readCall (now (a .file)) (now (a .in-columns)) (now (a .out-columns)) (now (a .matrix)) (now (a .found))
+    ≡ unlessRefused (n .read-number .result) (λ k. afterRead k (now (a .in-columns)) (now (a .out-columns)) (now (a .matrix)) (now (a .found))) (jobNumbers (r .read .result .job))
 unfolding readCall
 judged n = rw (← (n .before .read .ensures), ← (n .read-number .ensures))
 

@@ -5,9 +5,9 @@ use Rattle.read_call.proofs.read_number.Statement.{statement}
 use Rattle.read_call.proofs.read_number.Tie as tie
 
 returns : tie.Need-returns
-returns c = let a = c .before .args in rw (not-true (readLengths? (a .input-rows) (a .output-rows) (a .matrix) (a .found)) (c .if1 .taken))
+returns c = let a = c .before .args in rw (not-true (readLengths? (a .in-columns) (a .out-columns) (a .matrix) (a .found)) (c .if1 .taken))
 
-right : (c : tie.Else1) → let a = c .before .args in readLengths? (a .input-rows) (a .output-rows) (a .matrix) (a .found) ≡ true
+right : (c : tie.Else1) → let a = c .before .args in readLengths? (a .in-columns) (a .out-columns) (a .matrix) (a .found) ≡ true
 right c = not-false _ (c .if1 .left)
 
 pub read-number-spec : {M : Type 1} → statement M

@@ -1,8 +1,7 @@
 -- `run_call::run` meets its contract: slices of the wrong length are refused, and what a run leaves is written back as numbers.
-use Rattle.whole.proofs.Laws.{needs, _≡_, sym, _∙_, true, _%_, length, now, not-true, not-false}
-use Rattle.numbers.proofs.Laws.{four-lengths}
+use Rattle.whole.proofs.Laws.{needs, _≡_, sym, _∙_, true, length, now, not-true, not-false}
+use Rattle.numbers.proofs.Laws.{lentSystem, four-lengths}
 use Rattle.run_call.specs.RunCall.{runLengths?, runCall}
-use Rattle.run_call.proofs.Rows.{lent-run}
 use Rattle.run_call.proofs.Ran.{ran-call}
 use Rattle.run_call.proofs.run.Statement.{statement}
 use Rattle.run_call.proofs.run.Tie as tie
@@ -14,11 +13,11 @@ returns : tie.Need-returns
 unfolding runCall
 returns c = rw (sym (c .before .run-lengths .ensures) ∙ not-true _ (c .if1 .taken))
 
-right : (c : tie.Else1) → let a = start c .args in runLengths? (now (a .input-rows)) (now (a .output-rows)) (now (a .state)) (now (a .counts)) ≡ true
+right : (c : tie.Else1) → let a = start c .args in runLengths? (lentSystem (a .in-digits) (now (a .in-columns))) (lentSystem (a .out-digits) (now (a .out-columns))) (now (a .state)) (now (a .counts)) ≡ true
 right c = sym (c .before .run-lengths .ensures) ∙ not-false _ (c .if1 .left)
 
 sized : (c : tie.Else1) → let a = start c .args in
-    (length (now (a .input-rows)) % 8 ≡ 0) × (length (now (a .output-rows)) % 8 ≡ 0) × (length (now (a .state)) ≡ 5) × (length (now (a .counts)) ≡ 2)
+    (length (now (a .in-columns)) ≡ 128) × (length (now (a .out-columns)) ≡ 128) × (length (now (a .state)) ≡ 5) × (length (now (a .counts)) ≡ 2)
 sized c = four-lengths (right c)
 
 put-answer-requires : tie.Need-put-answer-requires
@@ -32,9 +31,9 @@ returns-2 c =
     let s = r .before .before in
     let l = s .before .before in
     let a = start l .args in
-    let ran = lent-run (now (a .input-rows)) (now (a .output-rows)) (sized l .0) (sized l .1) (s .state-from .ensures) (now (a .input)) (now (a .output)) in
-    rw (right l) (ran-call (now (a .state)) ran (r .run-lent .ensures) (p .put-answer .ensures))
+    rw (right l, ← (s .state-from .ensures)) (ran-call (now (a .state)) (r .run-lent .ensures) (p .put-answer .ensures))
 
 pub run-spec : {M : Type 1} → statement M
-run-spec = tie.close (tie.spec (λ c κs. search needs) returns (λ c κs. sized (c .before) .2) (λ c κs. search needs) put-answer-requires (λ c. search needs)
+run-spec = tie.close (tie.spec (λ c κs. search needs) returns (λ c κs. sized (c .before) .2)
+    (λ c κs. let l = sized (c .before .before .before) in (record { size = l .0 }, record { size = l .1 })) put-answer-requires (λ c. search needs)
     (λ c. search needs) (λ c. search needs) returns-2)

@@ -17,7 +17,7 @@ pseudoinverse-requires : tie.Need-pseudoinverse-requires
 pseudoinverse-requires c κs = subst (Within 1000000000) (sym (c .transformation .ensures)) (within-le (c .before .before .before .pre .digit .in-range .numbers-f) tt)
 
 -- the pseudoinverse that was formed
-turned : (c : tie.After-pseudoinverse) → let a = c .before .before .before .before .args in c .pseudoinverse .result ≡ pseudoinverseOf (transformationAt (now (a .rows)) (a .b))
+turned : (c : tie.After-pseudoinverse) → let a = c .before .before .before .before .args in c .pseudoinverse .result ≡ pseudoinverseOf (transformationAt (now (a .columns)) (a .b))
 turned c = c .pseudoinverse .ensures ∙ ap pseudoinverseOf (c .before .transformation .ensures)
 
 product-requires : tie.Need-product-requires

@@ -1,6 +1,5 @@
--- `unary::run` meets its contract: it lends the rows of its two systems, 128 numbers each.
+-- `unary::run` meets its contract: it lends the columns of its two systems.
 use Rattle.whole.proofs.Laws.{needs, sym}
-use Rattle.digits.proofs.Laws.{stored-128}
 use Rattle.unary.proofs.run.Statement.{statement}
 use Rattle.unary.proofs.run.Tie as tie
 
@@ -12,7 +11,7 @@ slice-aggregate-run-lent-2 c = search needs
 
 run-lent-requires : tie.Need-run-lent-requires
 run-lent-requires c κs =
-    (stored-128 (sym (slice-aggregate-run-lent (c .before .before))), stored-128 (sym (slice-aggregate-run-lent-2 (c .before))))
+    (record { size = sym (slice-aggregate-run-lent (c .before .before)) }, record { size = sym (slice-aggregate-run-lent-2 (c .before)) })
 
 pub run-spec : {M : Type 1} → statement M
 run-spec = tie.close (tie.spec slice-aggregate-run-lent slice-aggregate-run-lent-2 run-lent-requires (λ c. search needs) (λ c. c .before .before .run-lent .ensures))

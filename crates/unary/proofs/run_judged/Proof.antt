@@ -10,18 +10,18 @@ use Rattle.unary.proofs.run_judged.Statement.{statement}
 use Rattle.unary.proofs.run_judged.Tie as tie
 
 abbrev both : ℕ → List ℤ → ℕ → List ℤ → Setting
-both n rows m rows′ = setting (lent n rows) (lent m rows′)
+both n columns m columns′ = setting (lent n columns) (lent m columns′)
 
 abbrev Inv-loop : tie.InvT-loop
-Inv-loop n rows m rows′ input output₀ st₀ i₀ o₀ output st i o = (Ready (both n rows m rows′) st) × (Here (both n rows m rows′) st₀ input output₀ output st i o)
+Inv-loop n columns m columns′ input output₀ st₀ i₀ o₀ output st i o = (Ready (both n columns m columns′) st) × (Here (both n columns m columns′) st₀ input output₀ output st i o)
 
 abbrev μ-loop : tie.MeasureT-loop
-μ-loop n rows m rows′ input output₀ st₀ i₀ o₀ output st i o = stepsLeft (both n rows m rows′) input output₀ st i o
+μ-loop n columns m columns′ input output₀ st₀ i₀ o₀ output st i o = stepsLeft (both n columns m columns′) input output₀ st i o
 
 loop-holds : tie.Need-loop-holds Inv-loop μ-loop
 loop-holds c =
     let a = c .before .before .args in
-    (c .before .before .pre, here-first (plain (both (a .input-count) (now (a .input-rows)) (a .output-count) (now (a .output-rows)))) (a .s) (lentTo (now (a .input)) (now (a .output))))
+    (c .before .before .pre .2, here-first (plain (both (a .input-count) (now (a .input-columns)) (a .output-count) (now (a .output-columns)))) (a .s) (lentTo (now (a .input)) (now (a .output))))
 
 -- ---- a turn of the loop, behind its step
 
@@ -29,7 +29,7 @@ abbrev start : tie.After-step Inv-loop μ-loop → tie.Start Inv-loop μ-loop
 start S = S .before .before .before .before
 
 abbrev pair : tie.After-step Inv-loop μ-loop → Setting
-pair S = let a = start S .args in both (a .input-count) (now (a .input-rows)) (a .output-count) (now (a .output-rows))
+pair S = let a = start S .args in both (a .input-count) (now (a .input-columns)) (a .output-count) (now (a .output-columns))
 
 law : (S : tie.After-step Inv-loop μ-loop) → let l = S .before .loop in let a = start S .args in
     Turn (pair S) (a .s) (now (a .input)) (now (a .output)) (l .output) (l .st) (l .i) (l .o) (S .step .result)
@@ -82,5 +82,5 @@ loop-again-3 c = let S = c .before .before .before in (kept S, law S .absorb (c 
 
 pub run-judged-spec : {M : Type 1} → statement M
 run-judged-spec = tie.close (tie.spec
-    Inv-loop μ-loop loop-holds (λ c κs. c .loop .inv .0) (λ c. search needs) same-length returns enum-told add-i loop-less loop-again (λ c. search needs)
+    Inv-loop μ-loop loop-holds (λ c κs. let p = c .before .before .before .pre in (p .0, p .1, c .loop .inv .0)) (λ c. search needs) same-length returns enum-told add-i loop-less loop-again (λ c. search needs)
     slice-write-output add-o loop-less-2 loop-again-2 (λ c. search needs) loop-less-3 loop-again-3)

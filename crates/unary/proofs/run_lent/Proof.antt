@@ -15,7 +15,7 @@ abbrev start : tie.After-refusal → tie.Start
 start r = r .before .before .before
 
 abbrev systems : tie.After-refusal → Setting
-systems r = let a = start r .args in setting (lent (a .input-count) (now (a .input-rows))) (lent (a .output-count) (now (a .output-rows)))
+systems r = let a = start r .args in setting (lent (a .input-count) (now (a .input-columns))) (lent (a .output-count) (now (a .output-columns)))
 
 returns : tie.Need-returns
 returns c =
@@ -34,7 +34,7 @@ run-judged-requires : tie.Need-run-judged-requires
 run-judged-requires c κs =
     let r = c .before .before in
     let s = start r in
-    accepted-ready (systems r) (s .args .state) (s .pre .0) (s .pre .1) (accepted (c .before))
+    (s .pre .0, s .pre .1, accepted-ready (systems r) (s .args .state) (accepted (c .before)))
 
 returns-2 : tie.Need-returns-2
 returns-2 c =

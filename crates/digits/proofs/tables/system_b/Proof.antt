@@ -1,12 +1,12 @@
--- `digits::tables::system_b` meets its contract: the rows of the table, one behind the other, by computation.
+-- `digits::tables::system_b` meets its contract: the columns of the table, by computation.
 use Rattle.whole.proofs.Laws.{needs}
-use Rattle.digits.specs.BuiltIn.{systemOf, putRow, putRows}
+use Rattle.digits.specs.BuiltIn.{stored, tableColumns}
 use Rattle.digits.proofs.tables.system_b.Statement.{statement}
 use Rattle.digits.proofs.tables.system_b.Tie as tie
 
 returns : tie.Need-returns
-unfolding systemOf putRow putRows
-returns c = λ i. record { count = 8; rows = c .flat .ensures i }
+unfolding stored tableColumns
+returns c = λ i. record { count = 8; columns = c .columns .ensures i }
 
 pub system-b-spec : {M : Type 1} → statement M
 system-b-spec = tie.close (tie.spec (λ c κs. search needs) returns)

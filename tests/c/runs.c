@@ -1,0 +1,184 @@
+/* Opening, and runs; refusals.c has runs that are refused. */
+#include "world.h"
+
+/* ---- opening */
+
+static void opens(int64_t a, int64_t b, int64_t c, int64_t d, uint32_t expected, int64_t divisor, const char *what) {
+    const int64_t m[4] = {a, b, c, d};
+    begin();
+    memcpy(now.matrix, m, sizeof m);
+    ready();
+    if (expected == 0) {
+        for (int k = 0; k < 4; k++) then.state[k] = m[k] / divisor;
+        then.state[4] = -1;
+    }
+    settled(sled_open(now.matrix, 4, now.state, 5), expected, what, (long)a);
+}
+
+void opening(void) {
+    opens(2, 1, 1, 2, 0, 1, "2 1 1 2");
+    opens(2, 0, 0, 2, 0, 2, "2 0 0 2 is cancelled");
+    opens(-6, 0, 9, -3, 0, 3, "signs stay");
+    opens(1000, 0, 0, 1, 0, 1, "1000");
+    opens(1000, -1000, 1000, 1000, 0, 1000, "the bounds");
+    opens(1001, 0, 0, 1, 6, 1, "1001");
+    opens(1, 1001, 0, 1, 6, 1, "1001, second");
+    opens(1, 0, -1001, 1, 6, 1, "-1001, third");
+    opens(1, 0, 0, 1001, 6, 1, "1001, fourth");
+    opens(LEAST, 0, 0, 1, 6, 1, "the least number");
+    opens(LEAST, LEAST, LEAST, LEAST, 6, 1, "the least number, four times");
+    opens(MOST, 0, 0, MOST, 6, 1, "the largest number");
+    opens(1, 2, 2, 1, 11, 1, "determinant -3");
+    opens(1, 1, 1, 1, 11, 1, "determinant 0");
+    opens(0, 0, 0, 0, 11, 1, "all 0");
+    opens(1001, 1001, 1001, 1001, 6, 1, "6 before 11");
+    for (size_t p = 0; p <= 8; p++)
+        for (size_t q = 0; q <= 8; q++)
+            if (p != 4 || q != 5) {
+                begin();
+                now.matrix[0] = 2, now.matrix[1] = 1, now.matrix[2] = 1, now.matrix[3] = 2;
+                ready();
+                settled(sled_open(now.matrix, p, now.state, q), 40, "lengths of opening", (long)(10 * p + q));
+            }
+}
+
+/* ---- runs */
+
+static void stands(int64_t a, int64_t b, int64_t c, int64_t d, int64_t held) {
+    const int64_t five[5] = {a, b, c, d, held};
+    memcpy(then.state, five, sizeof five);
+}
+
+static const int64_t ONE[5] = {1, 0, 0, 1, -1};
+
+static void short_words(void) {
+    given(R, R, START, WORD, 3);
+    counted(3, 3);
+    then.output[0] = 0, then.output[1] = 1, then.output[2] = 1;
+    settled(run(right(R, R, 3, 10)), 0, "R to R, 0 0 1", 0);
+
+    given(R, R, START, WORD, 3);
+    counted(3, 2);
+    stands(3, 0, 1, 1, 1);
+    then.output[0] = 0, then.output[1] = 1;
+    settled(run(right(R, R, 3, 2)), 20, "the same with room 2", 0);
+    counted(0, 0);
+    settled(run(right(R, R, 0, 0)), 20, "it stops again", 0);
+    counted(0, 1);
+    stands(2, 1, 1, 2, -1);
+    then.output[0] = 1;
+    settled(run(right(R, R, 0, 1)), 0, "and goes on with room", 0);
+
+    given(B, B, ONE, (const uint8_t[]){1}, 1);
+    counted(1, 1);
+    then.output[0] = 1;
+    settled(run(right(B, B, 1, 10)), 0, "B to B, a 2 is cancelled", 0);
+
+    given(R, R, START, WORD, 3);
+    counted(0, 0);
+    settled(run(right(R, R, 0, 0)), 0, "an empty word", 0);
+}
+
+/* a byte that is no digit stops the run, whatever stands in the place of such a digit */
+static void no_digit(void) {
+    for (int byte = 4; byte < 256; byte++) {
+        given(R, R, START, WORD, 3);
+        now.input[0] = then.input[0] = (uint8_t)byte;
+        counted(0, 0);
+        settled(run(right(R, R, 3, 10)), 21, "no digit", byte);
+    }
+}
+
+static void a_third(void) {
+    uint8_t third[40];
+    for (int k = 0; k < 40; k++) third[k] = k % 2 == 0 ? 2 : 0;
+    const int64_t m[5] = {3, -1, 0, 1, -1};
+    given(D, R, m, third, 40);
+    counted(30, 0);
+    stands(3, 1, 0, 536870912, 0);
+    settled(run(right(D, R, 40, 100)), 22, "D to R, 40 digits of 1/3", 0);
+    counted(0, 0);
+    settled(run(right(D, R, 10, 100)), 22, "it stops again", 0);
+    given(D, R, m, third, 40);
+    counted(29, 0);
+    stands(3, 1, 0, 536870912, -1);
+    settled(run(right(D, R, 29, 100)), 0, "29 of them", 0);
+}
+
+static void any_room(void) {
+    for (size_t room = 0; room <= 128; room++) {
+        given(SAME, SAME, ONE, (const uint8_t[]){0}, 1);
+        counted(1, room);
+        stands(1, 0, 0, 1, 0);
+        memset(then.output, 0, room);
+        settled(run(right(SAME, SAME, 1, room)), 20, "any room is filled with 0", (long)room);
+    }
+}
+
+/* after end 22 the session is over: whatever bytes and room follow, nothing is done; without any room the end is 20 where a digit fits */
+static void after_22(void) {
+    const int64_t state[5] = {-760000000, -2, 400000000, 1, -1};
+    given(R, D, state, (const uint8_t[]){0, 9, 1}, 3);
+    counted(1, 0);
+    stands(-760000000, -2, 400000000, 1, 0);
+    settled(run(right(R, D, 1, 2)), 22, "a digit fits, and its state leaves the range", 0);
+    counted(0, 0);
+    for (size_t length = 0; length <= 3; length++)
+        for (size_t room = 0; room <= 3; room++)
+            settled(run(right(R, D, length, room)), room == 0 ? 20 : 22, "and again, with other bytes and other room", (long)(10 * length + room));
+}
+
+/* R's digits again and again, so many of sixteen: the first four are given out */
+static void any_count(void) {
+    for (size_t in = 4; in <= 16; in++)
+        for (size_t out = 4; out <= 16; out++) {
+            const struct system some = {in, SIXTEEN.rows}, others = {out, SIXTEEN.rows};
+            given(some, others, START, WORD, 3);
+            counted(3, 3);
+            then.output[0] = 0, then.output[1] = 1, then.output[2] = 1;
+            settled(run(right(some, others, 3, 10)), 0, "R's digits again and again", (long)(100 * in + out));
+        }
+}
+
+enum { WHOLE = 60, SPACE = 128 };
+
+/* what R to B writes of the whole word, `piece` bytes and `room` digits a call; answers how many digits, or 0 if it does not come to an end */
+static size_t in_pieces(const uint8_t *word, size_t piece, size_t room, uint8_t *output, int64_t *state) {
+    int16_t in[SLED_COLUMNS], out[SLED_COLUMNS];
+    size_t counts[2] = {0, 0}, taken = 0, written = 0;
+    memcpy(state, START, sizeof START);
+    for (int calls = 0; calls < 1000 && written < SPACE; calls++) {
+        size_t give = WHOLE - taken < piece ? WHOLE - taken : piece, take = SPACE - written < room ? SPACE - written : room;
+        lend(in, R), lend(out, B); /* and other junk at each call */
+        uint32_t end = sled_run(4, in, SLED_COLUMNS, 8, out, SLED_COLUMNS, state, 5, word + taken, give, output + written, take, counts, 2);
+        if (counts[0] > give || counts[1] > take) return 0;
+        taken += counts[0];
+        written += counts[1];
+        if (end == 0 && taken == WHOLE) return written;
+    }
+    return 0;
+}
+
+/* a word fed in pieces of each size gives what the whole word gives */
+static void pieces(void) {
+    uint8_t word[WHOLE], whole[SPACE], parts[SPACE];
+    int64_t end_state[5], state[5];
+    for (int k = 0; k < WHOLE; k++) word[k] = (uint8_t)(k * k % 7 % 2);
+    size_t length = in_pieces(word, WHOLE, SPACE, whole, end_state);
+    check(length > 20, "the whole word", (long)length);
+    for (size_t piece = 1; piece <= WHOLE; piece++)
+        for (size_t room = 1; room <= 9; room++) {
+            size_t written = in_pieces(word, piece, room, parts, state);
+            check(written == length && memcmp(whole, parts, length) == 0 && memcmp(state, end_state, sizeof state) == 0, "in pieces", (long)(10 * piece + room));
+        }
+}
+
+void runs(void) {
+    short_words();
+    no_digit();
+    a_third();
+    any_room();
+    any_count();
+    after_22();
+    pieces();
+}

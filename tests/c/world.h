@@ -1,0 +1,112 @@
+/* What every part of the test of the C library stands on; plugin.c says which parts there are.
+
+   All slices that a call is lent lie in one struct, the world, with guards between them. `now` is lent. `then` is its copy from before the call, changed to what has to stand
+   there afterwards; the two are compared byte by byte, so that no write goes unseen.
+
+   Systems are written here as a person writes them, by rows, and turned into columns by lines of the test's own. Where they are lent, junk stands in the unused places. */
+#ifndef WORLD_H
+#define WORLD_H
+
+#include "sledhillock.h"
+
+int printf(const char *format, ...);
+void *memcpy(void *to, const void *from, size_t n);
+void *memset(void *to, int byte, size_t n);
+int memcmp(const void *a, const void *b, size_t n);
+
+enum { GUARD = 64, LENT = 144 }; /* LENT: more numbers than the columns or the rows of a system have, so that there are lengths which are too large */
+
+struct world {
+    uint8_t guard0[GUARD];
+    int16_t in_columns[LENT];
+    uint8_t guard1[GUARD];
+    int16_t out_columns[LENT];
+    uint8_t guard2[GUARD];
+    int16_t rows[LENT];
+    uint8_t guard3[GUARD];
+    int64_t matrix[8];
+    uint8_t guard4[GUARD];
+    int64_t state[8];
+    uint8_t guard5[GUARD];
+    uint8_t input[128];
+    uint8_t guard6[GUARD];
+    uint8_t output[128];
+    uint8_t guard7[GUARD];
+    size_t counts[4];
+    uint8_t guard8[GUARD];
+    uint8_t file[704];
+    uint8_t guard9[GUARD];
+    size_t found[8];
+    uint8_t guard10[GUARD];
+};
+
+extern struct world now, then;
+extern int passed, failed;
+
+void begin(void);           /* a world in which every byte is known */
+void begin_at_random(void); /* a world of any bytes */
+void ready(void);           /* the world is as a call finds it: from here on `then` is what it has to leave */
+
+void check(int right, const char *what, long detail);
+
+/* the call answered what it should, and the world is as it should be */
+void settled(uint32_t answer, uint32_t expected, const char *what, long detail);
+
+/* many tests of one kind count as one, and their failures one by one: `before` is `passed` from before the first */
+void counts_as_one(int before);
+
+uint32_t any(uint32_t below); /* a number by chance; the same ones at each run of the test */
+
+/* ---- systems */
+
+struct system {
+    size_t digits;
+    const int16_t *rows;
+};
+
+/* the built-in systems; two digits that are both the identity, and cover the line with (0, infinity) and (infinity, 0); and sixteen digits, R's four times */
+extern const struct system R, B, D, SAME, SIXTEEN;
+
+/* rows of one digit that are refused by 6, 7, 8 and 9 */
+extern const struct system REFUSED[4];
+
+/* counts of digits that no system has, among them such as would be 4 if they were cut to fewer bits, or whose rows, eight numbers each, would be few */
+enum { LARGE_COUNTS = 18 };
+extern const size_t LARGE[LARGE_COUNTS];
+
+/* what stands in unused places: 0; any number; small numbers; good digits, which would cover what is not covered and fit where nothing fits */
+extern enum junk { NOUGHT, ANY_NUMBERS, SMALL_NUMBERS, GOOD_DIGITS, JUNKS } junk;
+
+void stored(int16_t *columns, struct system s); /* the columns that the library has to write: 0 in unused places */
+void lend(int16_t *columns, struct system s);   /* the columns that it is lent: junk in unused places; of more than 16 digits, the first 16 */
+
+/* ---- a run over what stands in the world */
+
+/* every count and every length that a run is told */
+struct lengths {
+    size_t in_digits, in_columns, out_digits, out_columns, state, input, output, counts;
+};
+
+uint32_t run(struct lengths n);
+
+struct lengths right(struct system in, struct system out, size_t input, size_t output); /* the right ones for these systems */
+
+/* what a run finds: systems, a state, a word */
+void given(struct system in, struct system out, const int64_t *state, const uint8_t *word, size_t length);
+
+void counted(size_t taken, size_t written); /* the counts that it has to leave */
+
+extern const int64_t START[5], LEAST, MOST;
+extern const uint8_t WORD[3];
+
+/* ---- the parts */
+
+void built_in(void);
+void admission(void);
+void turning(void);
+void opening(void);
+void runs(void);
+void refusals(void);
+void jobs(void);
+
+#endif
