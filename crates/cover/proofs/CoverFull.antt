@@ -3,13 +3,13 @@
 -- det(z, x) and det(z, y) have one sign. Cut at z, the circle of all points is a line, and on it the right ends have an order: p lies at q or behind it exactly if
 -- det(z, p)·det(z, q)·det(p, q) ≥ 0. Of two ends one always does, and the order passes on, so there is a digit a whose right end y_a lies behind all the others.
 -- Behind it goes on some digit b, which holds y_a and doesn't end there. But b's right end lies before y_a, so b's interval could hold y_a only by running through z.
-use Rattle.whole.proofs.Laws.{_≡_, refl, Bool, true, false, List, _⊎_, inl, inr, ℕ, _≤_, _<_, ℤ, pos, negℤ, _+ℤ_, _*ℤ_, _≤ℤ_, _<ℤ_, _⊕_, _⊗_, ⊝_, #, <-or-≥, _≦_, _≺_, _≈_, never, h, sq, _⊠_, _⊡_, linear, _&_, _⇒_, _from_, claim, first, found?}
+use Rattle.whole.proofs.Laws.{_≡_, refl, Bool, true, false, List, _⊎_, inl, inr, ℕ, _≤_, _<_, ℤ, pos, negℤ, _+ℤ_, _*ℤ_, _≤ℤ_, _<ℤ_, _⊕_, _⊗_, ⊝_, #, <-or-≥, _≦_, _≺_, _≈_, never, h, sq, _⊠_, _⊡_, linear, _&_, _⇒_, _from_, claim, someBelow?, some-passes, none-passes}
 use Rattle.plane.proofs.Laws.{Pair, Point, det, left, right, Interval, det-turned, three-terms, square-above}
 use Rattle.inclusion.proofs.Laws.{closed?, closed-says, not-closed-says}
 use Rattle.digits.proofs.Laws.{System, interval}
 use Rattle.cover.specs.Cover.{covered?, Covers}
 use Rattle.cover.proofs.Greatest.{greatest}
-use Rattle.cover.proofs.CoverTests.{found-one, found-none, GoesOn, Intervals, gap-free}
+use Rattle.cover.proofs.CoverTests.{GoesOn, Intervals, gap-free}
 
 -- ---- the order of the points, cut at z
 
@@ -78,9 +78,9 @@ module _ (s : System) (some-digit : 1 ≤ s .count) (intervals : Intervals s) (f
       let d = gap-free s full (g .top) (g .below) in
       last-stops (intervals (d .next) (d .below)) (m (d .next) (d .below)) (g .beyond (d .next) (d .below)) (d .goes)
 
-  found-or-missed : (t : Bool) → found? (first (holds? s z) (s .count) 0) ≡ t → Covers s z
-  found-or-missed true e = let p = found-one (holds? s z) (s .count) e in (p .number, p .below, closed-says (p .passes))
-  found-or-missed false e = absurd (not-all-missed (λ a l. missed (interval s a) z (found-none (holds? s z) (s .count) e a l)))
+  found-or-missed : (t : Bool) → someBelow? (holds? s z) (s .count) ≡ t → Covers s z
+  found-or-missed true e = let p = some-passes (holds? s z) (s .count) e in (p .number, p .below, closed-says (p .passes))
+  found-or-missed false e = absurd (not-all-missed (λ a l. missed (interval s a) z (none-passes (holds? s z) (s .count) e a l)))
 
 pub covered : (s : System) → 1 ≤ s .count → Intervals s → covered? s ≡ true → (z : Pair) → Point z → Covers s z
-covered s some-digit intervals full z p = found-or-missed s some-digit intervals full z (found? (first (holds? s z) (s .count) 0)) refl
+covered s some-digit intervals full z p = found-or-missed s some-digit intervals full z (someBelow? (holds? s z) (s .count)) refl

@@ -1,31 +1,10 @@
 -- What the tests of the cover say. `covered?` is made of searches and signs; here it becomes two sentences on intervals:
 -- if it is true, behind every digit's right end some digit goes on (`gap-free`); if it is false, there is a digit behind whose right end none does (`gap-found`).
-use Rattle.whole.proofs.Laws.{_≡_, refl, sym, _∙_, Bool, true, false, not, _&&_, true≢false, false≢true, List, Option, none, some, ℕ, _<_, arith, not-true, not-false, ℤ, pos, _*ℤ_, _<ℤ_, first, found?, first-found, first-none, both-true}
+use Rattle.whole.proofs.Laws.{_≡_, refl, sym, _∙_, Bool, true, false, not, _&&_, true≢false, List, ℕ, _<_, not-true, not-false, ℤ, pos, _*ℤ_, _<ℤ_, both-true, some-passes, none-passes, every-passes, one-fails}
 use Rattle.plane.proofs.Laws.{det, left, right, Interval, Closed}
 use Rattle.inclusion.proofs.Laws.{closed?, same?, closed-says, not-closed-says, same-zero, zero-same}
 use Rattle.digits.proofs.Laws.{System, interval}
 use Rattle.cover.specs.Cover.{goesOnBehind?, someGoesOn?, covered?}
-
--- ---- a search that finds, and one that doesn't
-
-pub record Passing (t : ℕ → Bool) (n : ℕ) : Type 0 where
-  pub number : ℕ
-  pub below : number < n
-  pub passes : t number ≡ true
-
-pub found-one : (t : ℕ → Bool) (n : ℕ) → found? (first t n 0) ≡ true → Passing t n
-found-one t n p = by (first t n 0) refl p
-  where
-    by : (o : Option ℕ) → first t n 0 ≡ o → found? o ≡ true → Passing t n
-    by none e p = absurd (false≢true p)
-    by (some a) e p = let f = first-found t n 0 a e in record { number = a; below = omega (arith, f .below); passes = f .passes }
-
-pub found-none : (t : ℕ → Bool) (n : ℕ) → found? (first t n 0) ≡ false → (a : ℕ) → a < n → t a ≡ false
-found-none t n p a h = by (first t n 0) refl p
-  where
-    by : (o : Option ℕ) → first t n 0 ≡ o → found? o ≡ false → t a ≡ false
-    by none e p = first-none t n 0 e a (omega arith) (omega arith)
-    by (some b) e p = absurd (true≢false p)
 
 -- ---- two intervals: w goes on behind v's right end, or it doesn't
 
@@ -73,19 +52,18 @@ pub record LastDigit (s : System) : Type 0 where
 abbrev next? : System → List ℤ → ℕ → Bool
 next? s v b = goesOnBehind? v (interval s b)
 
-abbrev last? : System → ℕ → Bool
-last? s a = not (someGoesOn? s (interval s a))
+abbrev followed? : System → ℕ → Bool
+followed? s a = someGoesOn? s (interval s a)
 
 pub gap-free : (s : System) → covered? s ≡ true → (a : ℕ) → a < s .count → NextDigit s a
 gap-free s e a h =
     let v = interval s a in
-    let no-last = found-none (last? s) (s .count) (not-true (found? (first (last? s) (s .count) 0)) e) in
-    let p = found-one (next? s v) (s .count) (not-false (someGoesOn? s v) (no-last a h)) in
+    let p = some-passes (next? s v) (s .count) (every-passes (followed? s) (s .count) e a h) in
     record { next = p .number; below = p .below; goes = goes-on v (interval s (p .number)) (p .passes) }
 
 pub gap-found : (s : System) → covered? s ≡ false → LastDigit s
 gap-found s e =
-    let p = found-one (last? s) (s .count) (not-false (found? (first (last? s) (s .count) 0)) e) in
+    let p = one-fails (followed? s) (s .count) e in
     let v = interval s (p .number) in
-    let no-next = found-none (next? s v) (s .count) (not-true (someGoesOn? s v) (p .passes)) in
+    let no-next = none-passes (next? s v) (s .count) (not-true (followed? s (p .number)) (p .passes)) in
     record { last = p .number; below = p .below; stop = λ b h. stops v (interval s b) (no-next b h) }

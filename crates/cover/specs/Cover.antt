@@ -4,7 +4,7 @@ use mathlib.Core.Bool.{Bool, not, _&&_}
 use mathlib.Core.List.{List}
 use Prim.Native.Nat.{ℕ, _<_}
 use lib.IntN.{ℤ}
-use Rattle.whole.specs.First.{first, found?}
+use Rattle.whole.specs.First.{someBelow?, everyBelow?}
 use Rattle.plane.specs.Plane.{Pair, Closed, right}
 use Rattle.inclusion.specs.Inclusion.{closed?, same?}
 use Rattle.digits.specs.System.{System, interval}
@@ -18,7 +18,7 @@ abbrev pub goesOnBehind? : List ℤ → List ℤ → Bool
 goesOnBehind? v w = closed? w (right v) && not (same? (right v) (right w))
 
 abbrev pub someGoesOn? : System → List ℤ → Bool
-someGoesOn? s v = found? (first (λ b. goesOnBehind? v (interval s b)) (s .count) 0)
+someGoesOn? s v = someBelow? (λ b. goesOnBehind? v (interval s b)) (s .count)
 
 abbrev pub covered? : System → Bool
-covered? s = not (found? (first (λ a. not (someGoesOn? s (interval s a))) (s .count) 0))
+covered? s = everyBelow? (λ a. someGoesOn? s (interval s a)) (s .count)

@@ -6,8 +6,8 @@
 -- The argument. The test is read in the four numbers of InclusionSigns.antt (`Seen`). There its answer decides (`answer`) between "every mixture α·x + β·y of
 -- I's ends with α·β > 0 is inside J" and "one such mixture is outside". And these mixtures are the points inside I: each point z is one, up to a factor, by
 -- Cramer's rule det(x, y)·z = det(z, y)·x + det(x, z)·y (`mixture`); and each of them is inside I (`mix-inside`).
-use Rattle.whole.proofs.Laws.{_≡_, sym, _∙_, ap, ap₂, subst, Bool, true, false, _&&_, List, T, ℤ, pos, negℤ, _+ℤ_, _*ℤ_, _≤ℤ_, _<ℤ_, clashℤ, _⊕_, _⊖_, _⊗_, ⊝_, #, _≗_, law, _≺_, _≈_, never, h, _⊞_, _⊠_, _⊡_, _⇒_, _by_, claim, ≤-of-<, both-true, true-by}
-use Rattle.plane.proofs.Laws.{Det, det-turned, three-terms, Pair, Point, det, left, right, Interval, Inside, Closed}
+use Rattle.whole.proofs.Laws.{_≡_, sym, _∙_, ap, ap₂, subst, Bool, true, false, _&&_, List, T, ℤ, pos, negℤ, _+ℤ_, _*ℤ_, _≤ℤ_, _<ℤ_, clashℤ, _⊕_, _⊖_, _⊗_, #, _≗_, law, _≺_, h, _⊞_, _⊠_, _⇒_, _by_, claim, ≤-of-<, both-true, true-by}
+use Rattle.plane.proofs.Laws.{Det, det-turned, three-terms, mix, mix-inside, inside-point, Pair, Point, det, left, right, Interval, Inside, Closed}
 use Rattle.inclusion.specs.Inclusion.{Included, closed?, same?, included?}
 use Rattle.inclusion.proofs.InclusionSigns.{EndsIn, Kept, keep-equal, keep-u, keep-v, Mixture, kept-closed, kept-inside, Off, off-left, off-right, off-round}
 use Rattle.inclusion.proofs.InclusionTests.{closed-says, not-closed-says, same-zero, zero-same, Judged, left-out, right-out, equal, u-out, v-out, round, judge}
@@ -101,18 +101,6 @@ pub record Escaped (i j : List ℤ) : Type 0 where
   pub not-inside : Inside j z → ⊥
   pub not-closed : Closed j z → ⊥
 
-abbrev pub mix : ℤ → ℤ → Pair → Pair → Pair
-mix α β x y = record { z0 = α *ℤ x .z0 +ℤ β *ℤ y .z0; z1 = α *ℤ x .z1 +ℤ β *ℤ y .z1 }
-
--- the product for z = α·x + β·y is β·α·det(x, y)²
-pub mix-inside : {i : List ℤ} (α β : ℤ) → Interval i → pos 0 <ℤ (β *ℤ α) → Inside i (mix α β (left i) (right i))
-mix-inside {i} α β p s = record {
-  above =
-      claim 6 (λ α β x0 x1 y0 y1. Det x0 x1 y0 y1 ≺ # 0 ⇒ # 0 ≺ β ⊗ α ⇒
-      # 0 ≺ Det x0 x1 (α ⊗ x0 ⊕ β ⊗ y0) (α ⊗ x1 ⊕ β ⊗ y1) ⊗ Det (α ⊗ x0 ⊕ β ⊗ y0) (α ⊗ x1 ⊕ β ⊗ y1) y0 y1
-      by h 0 ⊞ h 1 ⊠ h 1 ⊠ h 2) tt α β (left i .z0) (left i .z1) (right i .z0) (right i .z1) (p .below) s;
-}
-
 mix-beyond : (α β : ℤ) (x y u v : Pair) →
     ((α *ℤ det u x +ℤ β *ℤ det u y) *ℤ (α *ℤ det x v +ℤ β *ℤ det y v)) <ℤ pos 0 → (det u (mix α β x y) *ℤ det (mix α β x y) v) <ℤ pos 0
 mix-beyond α β x y u v =
@@ -120,15 +108,6 @@ mix-beyond α β x y u v =
     (α ⊗ Det u0 u1 x0 x1 ⊕ β ⊗ Det u0 u1 y0 y1) ⊗ (α ⊗ Det x0 x1 v0 v1 ⊕ β ⊗ Det y0 y1 v0 v1) ≺ # 0 ⇒
     Det u0 u1 (α ⊗ x0 ⊕ β ⊗ y0) (α ⊗ x1 ⊕ β ⊗ y1) ⊗ Det (α ⊗ x0 ⊕ β ⊗ y0) (α ⊗ x1 ⊕ β ⊗ y1) v0 v1 ≺ # 0
     by h 0 ⊞ h 1) tt α β (x .z0) (x .z1) (y .z0) (y .z1) (u .z0) (u .z1) (v .z0) (v .z1)
-
--- what is inside an interval is a point
-pub inside-point : {w : List ℤ} {z : Pair} → Inside w z → Point z
-inside-point {w} {z} k = record {
-  not-both =
-      claim 6 (λ x0 x1 y0 y1 z0 z1. # 0 ≺ Det x0 x1 z0 z1 ⊗ Det z0 z1 y0 y1 ⇒ z0 ≈ # 0 ⇒ z1 ≈ # 0 ⇒ never
-      by h 1 ⊞ (⊝ (x1 ⊗ Det z0 z1 y0 y1)) ⊡ h 2 ⊞ (x0 ⊗ Det z0 z1 y0 y1) ⊡ h 3) tt
-      (left w .z0) (left w .z1) (right w .z0) (right w .z1) (z .z0) (z .z1) (k .above);
-}
 
 module _ {i j : List ℤ} (p : Interval i) (q : Interval j) where
   escaped : Seen Off i j → Escaped i j

@@ -3,7 +3,7 @@
 -- the parts of the test
 pub use Rattle.inclusion.proofs.InclusionTests.{closed-says, says-closed, not-closed, not-closed-says, same-zero, zero-same, same-says, says-same}
 -- the inclusion theorem
-pub use Rattle.inclusion.proofs.Inclusion.{included-says, says-included, not-included-says, closed-included, Escaped, not-included, inside-point, mix, mix-inside}
+pub use Rattle.inclusion.proofs.Inclusion.{included-says, says-included, not-included-says, closed-included, Escaped, not-included}
 -- the tests of documents 000 and 001
 pub use Rattle.inclusion.proofs.OtherTests.{ends-alone-exactly, ends-alone-enough, ends-alone-wrong, shut-out-exactly, never-too-much, equal-shut-out, P1-shut-out}
 -- the test by signs of determinants

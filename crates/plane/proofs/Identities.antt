@@ -34,13 +34,6 @@ det-turned x y = law 4 (λ a b c d. Det a b c d ≗ ⊝ (Det c d a b)) tt (x .z0
 pub det-self : (x : Pair) → det x x ≡ pos 0
 det-self x = law 2 (λ a b. Det a b a b ≗ # 0) tt (x .z0) (x .z1)
 
--- Cramer's rule: det(x, y) times z, in terms of x and y
-pub cramer0 : (x y z : Pair) → det x y *ℤ z .z0 ≡ det z y *ℤ x .z0 +ℤ det x z *ℤ y .z0
-cramer0 x y z = law 6 (λ a b c d e f. Det a b c d ⊗ e ≗ Det e f c d ⊗ a ⊕ Det a b e f ⊗ c) tt (x .z0) (x .z1) (y .z0) (y .z1) (z .z0) (z .z1)
-
-pub cramer1 : (x y z : Pair) → det x y *ℤ z .z1 ≡ det z y *ℤ x .z1 +ℤ det x z *ℤ y .z1
-cramer1 x y z = law 6 (λ a b c d e f. Det a b c d ⊗ f ≗ Det e f c d ⊗ b ⊕ Det a b e f ⊗ d) tt (x .z0) (x .z1) (y .z0) (y .z1) (z .z0) (z .z1)
-
 pub three-terms : (x y z w : Pair) → det x y *ℤ det z w ≡ det z y *ℤ det x w +ℤ det x z *ℤ det y w
 three-terms x y z w =
     law 8 (λ a b c d e f g h. Det a b c d ⊗ Det e f g h ≗ Det e f c d ⊗ Det a b g h ⊕ Det a b e f ⊗ Det c d g h) tt

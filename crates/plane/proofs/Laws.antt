@@ -3,7 +3,7 @@
 -- numbers of one sign, and numbers that are not 0
 pub use Rattle.plane.proofs.SameSign.{same-sign, grown, sign-back, sign-not-below, above-not-0, below-not-0, product-not-0, cancel-not-0, square-above}
 -- pairs and matrices by their entries; determinants of pairs (`Det` for the provers)
-pub use Rattle.plane.proofs.Identities.{pair-equal, four-equal, four, Det, det-turned, det-self, cramer0, cramer1, three-terms, det-scale, det-apply}
+pub use Rattle.plane.proofs.Identities.{pair-equal, four-equal, four, Det, det-turned, det-self, three-terms, det-scale, det-apply}
 -- determinants, products, multiples and pseudoinverses of matrices
 pub use Rattle.plane.proofs.Identities.{determinant-multiply, determinant-pseudoinverse, determinant-scale, apply-multiply, multiply-assoc}
 pub use Rattle.plane.proofs.Identities.{apply-scale, apply-scalePair, multiply-scale-left, multiply-scale-right, scale-scale, scale-scalePair, scale-entries, scale-one}
@@ -12,6 +12,8 @@ pub use Rattle.plane.proofs.Identities.{pseudoinverse-apply, apply-pseu
 -- a matrix with determinant above 0 keeps intervals, insides, closed intervals and points
 pub use Rattle.plane.proofs.Moves.{det-above-multiply, det-above-pseudoinverse, interval-moves, interval-back, point-moves, point-back, point-scale}
 pub use Rattle.plane.proofs.Moves.{between, inside-sign, closed-sign, inside-moves, inside-back, closed-moves, closed-back}
+-- what is inside an interval is a mixture of its ends
+pub use Rattle.plane.proofs.Mixtures.{mix, cramer, mix-inside, inside-point}
 -- "multiples are the same point"
 pub use Rattle.plane.proofs.Points.{same-point, same-refl, same-sym, same-trans, same-scale, same-multiple, point-same, same-det, det-same}
 pub use Rattle.plane.proofs.Points.{same-moves, same-undone, same-redone, same-back, same-scaled, inside-same, closed-same}

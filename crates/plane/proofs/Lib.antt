@@ -1,6 +1,7 @@
 -- Document 01, "Points, matrices, intervals", as theorems of its definitions, and what the functions' proofs share.
 --   Identities, SameSign              the algebra: determinants, products, pseudoinverses, multiples
 --   Moves, Points, Ends               a matrix with determinant above 0 keeps points, intervals, insides and closed intervals; multiples change nothing
+--   Mixtures                          the points inside an interval are mixtures of its ends
 --   Below                             "So (1/0, 1/−1) runs from infinity to −1"
 --   Cancelling                        `cancel-says`: lowest terms, the same matrix up to a positive factor, and the only one such
 --   MachineNumbers, Ranges            machine words, ranges of results: for the functions here and in the crates above
@@ -11,6 +12,7 @@ mod Identities
 mod Moves
 mod Points
 mod Ends
+mod Mixtures
 mod Below
 mod Cancelling
 mod MachineNumbers

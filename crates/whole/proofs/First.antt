@@ -1,7 +1,7 @@
 -- The laws of `first`: what a loop meets at each turn (a hit, a miss, the end), what an answer says, and that it looks at nothing else than the numbers that it passes.
-use Rattle.whole.proofs.Base.{_≡_, refl, sym, ap, _∙_, Bool, true, false, cond, _||_, none, some, ℕ, zero, suc, _+_, _-_, _<_, _≤_, arith, add-one, add-zero, ℕ-discrete}
+use Rattle.whole.proofs.Base.{_≡_, refl, sym, ap, _∙_, Bool, true, false, not, cond, _||_, true≢false, false≢true, not-true, not-false, Option, none, some, ℕ, zero, suc, _+_, _-_, _<_, _≤_, arith, add-one, add-zero, ℕ-discrete}
 use native.Mathlib.Nat.{sub-zero, zero-add}
-use Rattle.whole.specs.First.{first, found?}
+use Rattle.whole.specs.First.{first, found?, someBelow?, everyBelow?}
 
 -- ---- a loop that searches the numbers below n from some place on, and stands at i: what it will find is what the whole search finds. It begins so, it goes on so where i
 -- doesn't pass, and it ends with i where i passes, or with none.
@@ -122,3 +122,36 @@ pub first-same : (t s : ℕ → Bool) (k i : ℕ) → ((l : ℕ) → i ≤ l →
 unfolding first
 first-same t s zero i f = refl
 first-same t s (suc k) i f = rw (f i (omega arith) (omega arith), first-same t s k (suc i) (λ l u v. f l (omega arith) (omega arith)))
+
+-- ---- some number below n passes, and every one does
+
+pub record Passing (t : ℕ → Bool) (n : ℕ) : Type 0 where
+  pub number : ℕ
+  pub below : number < n
+  pub passes : t number ≡ true
+
+pub some-passes : (t : ℕ → Bool) (n : ℕ) → someBelow? t n ≡ true → Passing t n
+some-passes t n p = by (first t n 0) refl p
+  where
+    by : (o : Option ℕ) → first t n 0 ≡ o → found? o ≡ true → Passing t n
+    by none e p = absurd (false≢true p)
+    by (some a) e p = let f = first-found t n 0 a e in record { number = a; below = omega (arith, f .below); passes = f .passes }
+
+pub none-passes : (t : ℕ → Bool) (n : ℕ) → someBelow? t n ≡ false → (a : ℕ) → a < n → t a ≡ false
+none-passes t n p a h = by (first t n 0) refl p
+  where
+    by : (o : Option ℕ) → first t n 0 ≡ o → found? o ≡ false → t a ≡ false
+    by none e p = first-none t n 0 e a (omega arith) (omega arith)
+    by (some b) e p = absurd (true≢false p)
+
+pub every-passes : (t : ℕ → Bool) (n : ℕ) → everyBelow? t n ≡ true → (a : ℕ) → a < n → t a ≡ true
+every-passes t n p a h = not-false (t a) (none-passes (λ a. not (t a)) n (not-true (someBelow? (λ a. not (t a)) n) p) a h)
+
+pub one-fails : (t : ℕ → Bool) (n : ℕ) → everyBelow? t n ≡ false → Passing (λ a. not (t a)) n
+one-fails t n p = some-passes (λ a. not (t a)) n (not-false (someBelow? (λ a. not (t a)) n) p)
+
+pub some-same : (t s : ℕ → Bool) (n : ℕ) → ((a : ℕ) → a < n → t a ≡ s a) → someBelow? t n ≡ someBelow? s n
+some-same t s n f = ap found? (first-same t s n 0 (λ a i k. f a (omega arith)))
+
+pub every-same : (t s : ℕ → Bool) (n : ℕ) → ((a : ℕ) → a < n → t a ≡ s a) → everyBelow? t n ≡ everyBelow? s n
+every-same t s n f = ap not (some-same (λ a. not (t a)) (λ a. not (s a)) n (λ a h. ap not (f a h)))

@@ -24,6 +24,7 @@ pub use Rattle.whole.proofs.Divisor.{gcd-divides-left, gcd-divides-righ
 pub use Rattle.whole.proofs.Divisor.{Times, Times4, divided-times, up4, down4, one4, reduced, reduced-only}
 -- the first number that passes a test: a loop that searches, and what its answer says
 pub use Rattle.whole.proofs.First.{StandingFrom, begins-from, misses-from, hits-from, ends-from, Standing, begins, misses, hits, ends, Found, first-found, first-none, found-first, none-first, found-split, first-same}
+pub use Rattle.whole.proofs.First.{Passing, some-passes, none-passes, every-passes, one-fails, some-same, every-same}
 -- "0 passes, else the number decides"
 pub use Rattle.whole.proofs.Refusal.{passed, decided}
 -- lists: a loop that copies numbers, and what makes two lists the same
@@ -41,7 +42,7 @@ pub use Rattle.whole.proofs.Base.{zero-*ℤ, zero-le, ℕ, ℕ-discrete
 -- the definitions
 pub use Rattle.whole.specs.Divisor.{Divides4, Exact, divided, lowest?}
 unfoldable pub use Rattle.whole.specs.Divisor.{gcd, gcd4, gcdBy}
-pub use Rattle.whole.specs.First.{found?}
+pub use Rattle.whole.specs.First.{found?, someBelow?, everyBelow?}
 unfoldable pub use Rattle.whole.specs.First.{first}
 pub use Rattle.whole.specs.Range.{Near, Within, at}
 unfoldable pub use Rattle.whole.specs.Range.{within?}
