@@ -50,6 +50,20 @@ static int gone_on(usize from, usize to, const i16 *columns, i64 y0, i64 y1) {
     return 0;
 }
 
+/* of one digit: at every point z inside its interval, det F * (z . z) is above Pz . Pz, with P the pseudoinverse of F. Such a z is a mix of the ends x and y with two factors
+   of one sign, and the difference of the two sides is a form of three numbers in these factors: it is above 0 at all of them where none of the three is below 0 and not all
+   are 0, and else it is not. */
+static int expands(const i16 *f) {
+    i64 a = f[A], b = f[B], c = f[C], d = f[D], det = a * d - b * c;
+    i64 x0 = f[X0], x1 = f[X1], y0 = f[Y0], y1 = f[Y1];
+    i64 px0 = d * x0 - b * x1, px1 = a * x1 - c * x0; /* Px */
+    i64 py0 = d * y0 - b * y1, py1 = a * y1 - c * y0; /* Py */
+    i64 of_x = det * (x0 * x0 + x1 * x1) - (px0 * px0 + px1 * px1);
+    i64 mixed = det * (x0 * y0 + x1 * y1) - (px0 * py0 + px1 * py1);
+    i64 of_y = det * (y0 * y0 + y1 * y1) - (py0 * py0 + py1 * py1);
+    return of_x >= 0 && mixed >= 0 && of_y >= 0 && of_x + mixed + of_y > 0;
+}
+
 static u32 system_number(usize digits, const i16 *columns) {
     if (digits == 0 || digits > 16) return 3;
     for (usize a = 0; a < digits; a++) {
@@ -60,6 +74,8 @@ static u32 system_number(usize digits, const i16 *columns) {
         i64 y0 = columns[Y0 + a], y1 = columns[Y1 + a];
         if (!gone_on(a + 1, digits, columns, y0, y1) && !gone_on(0, a, columns, y0, y1)) return 10;
     }
+    for (usize a = 0; a < digits; a++)
+        if (!expands(columns + a)) return 18;
     return 0;
 }
 

@@ -47,7 +47,9 @@
      it. sled_columns turns rows into columns, and sled_rows turns columns into rows.
 
      A system is admitted if every number of its digits lies in -100..100, a d - b c > 0, x0 y1 - x1 y0 < 0, the four numbers of F have greatest common divisor 1, so have
-     the two of each end, and every point of the line, with infinity, lies in the closed interval of some digit.
+     the two of each end, every point of the line, with infinity, lies in the closed interval of some digit, and every digit expands: at every point z0/z1 inside W, the ends
+     left out, (a d - b c) (z0^2 + z1^2) > (d z0 - b z1)^2 + (a z1 - c z0)^2. In other words, the inverse of F makes every piece of W longer, where the line with infinity
+     is taken for a circle. The identity does not expand.
 
      A STATE is five numbers: the entries a b c d of a matrix, then the digit that was taken and is not yet absorbed, or -1 if there is none. It keeps the rules if the
      four have greatest common divisor 1, a d - b c > 0, each lies in -1000000000..1000000000, and the fifth is -1 or a digit of the input system. The states that
@@ -94,6 +96,7 @@ enum sled_number {
     SLED_REFUSED_INTERVAL = 8,  /* x0 y1 - x1 y0 of a digit's interval is not below 0 */
     SLED_REFUSED_LOWEST = 9,    /* a digit's map, or an end of its interval, is not in lowest terms */
     SLED_REFUSED_GAP = 10,      /* some point is in no digit's closed interval */
+    SLED_REFUSED_EXPAND = 18,   /* a digit does not expand at some point inside its interval */
     SLED_REFUSED_MATRIX = 11,   /* a d - b c of the matrix to open is not above 0 */
     SLED_REFUSED_STATE = 12,    /* the state breaks the rules for a state */
 
@@ -119,7 +122,7 @@ enum { SLED_R_DIGITS = 4, SLED_B_DIGITS = 8, SLED_D_DIGITS = 4 };
 
 /* Is this system admitted?
    length has to be SLED_COLUMNS. Answers 0, or the first rule that the system breaks: SLED_REFUSED_LENGTH, SLED_REFUSED_COUNT (digits is 0 or above 16, however large it is),
-   then digit by digit RANGE, MAP, INTERVAL, LOWEST, and at last GAP. Writes nothing. sled_run judges its systems itself: nobody has to ask first. */
+   then digit by digit RANGE, MAP, INTERVAL, LOWEST, then GAP, and at last EXPAND. Writes nothing. sled_run judges its systems itself: nobody has to ask first. */
 uint32_t sled_admit(size_t digits, const int16_t *columns, size_t length);
 
 /* The columns of a built-in system: R (4 digits, close to continued fractions: the word 1..1 0..0 1..1 .. with runs of a, b, c, .. names [a, b, c, ..]; digits 2 and 3 are for
@@ -152,8 +155,8 @@ uint32_t sled_rows(size_t digits, const int16_t *columns, size_t columns_length,
                             sled_run(found[0], in_columns, SLED_COLUMNS, found[1], out_columns, SLED_COLUMNS, .., file + found[2], found[3], ..), and sled_open does not
                             refuse the matrix.
      SLED_REFUSED_LENGTH    a length is wrong. Nothing is written.
-     any other              SLED_NUMBER(answer) is the refusal: COUNT, RANGE, MAP, INTERVAL, LOWEST, GAP, MATRIX, SHORT, LONG, FOUR or WORD, and SLED_SECTION(answer)
-                            the section where it was met. Nothing is written. */
+     any other              SLED_NUMBER(answer) is the refusal: COUNT, RANGE, MAP, INTERVAL, LOWEST, GAP, EXPAND, MATRIX, SHORT, LONG, FOUR or WORD, and
+                            SLED_SECTION(answer) the section where it was met. Nothing is written. */
 uint32_t sled_read(const uint8_t *file, size_t file_length, int16_t *in_columns, size_t in_length, int16_t *out_columns, size_t out_length,
                    int64_t *matrix, size_t matrix_length, size_t *found, size_t found_length);
 
@@ -169,8 +172,8 @@ uint32_t sled_open(const int64_t *matrix, size_t matrix_length, int64_t *state, 
                             from the first byte that was not taken, and new room. After SLED_END_NOT_A_DIGIT pass over or mend the byte first. After
                             SLED_END_RANGE_LEFT the session is over: whatever input and room a call from this state is given, it takes nothing, writes nothing, leaves
                             the state and answers SLED_END_RANGE_LEFT again; or SLED_END_NO_ROOM, if output_length is 0 and a digit could be given out.
-     SLED_REFUSED_..        of the input system (COUNT, RANGE, MAP, INTERVAL, LOWEST, GAP, as sled_admit), then of the output system, then SLED_REFUSED_STATE: counts[0]
-                            and counts[1] are 0, and the state and the output are unchanged.
+     SLED_REFUSED_..        of the input system (COUNT, RANGE, MAP, INTERVAL, LOWEST, GAP, EXPAND, as sled_admit), then of the output system, then SLED_REFUSED_STATE:
+                            counts[0] and counts[1] are 0, and the state and the output are unchanged.
      SLED_REFUSED_LENGTH    in_length or out_length is not SLED_COLUMNS, state_length is not SLED_STATE or counts_length is not SLED_COUNTS: nothing is written, not even
                             the counts.
 

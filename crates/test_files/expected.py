@@ -7,6 +7,9 @@
 import os, struct, sys
 
 R = [[1, 0, 1, 1, 0, 1, 1, 1], [1, 1, 0, 1, 1, 1, 1, 0], [1, -1, 0, 1, 1, 0, 1, -1], [1, 0, -1, 1, -1, 1, 0, 1]]
+IDENTITIES = [[1, 0, 0, 1, 0, 1, 1, 0], [1, 0, 0, 1, 1, 0, 0, -1]]
+PLAIN_BINARY = [[1, -1, 0, 2, -1, 1, 0, 1], [1, 1, 0, 2, 0, 1, 1, 1], [2, 0, 0, 1, 1, 1, 1, -1]]  # of document 004: 2x on (1, −1) does not expand at 5/4
+HUNDRED = R + [[1, 0, 100, 1, 0, 1, 1, 100]]                 # R, and a digit that stands for a hundred digits 0
 M = [2, 1, 1, 2]
 
 
@@ -58,6 +61,10 @@ for section, put in ((0, lambda s: job(a=s)), (1, lambda s: job(b=s))):
         (put(R[:3]), f'refused 10 {section}'), (put(R[:1]), f'refused 10 {section}'),
         (put(changed(0, 0, 101)[:1] + changed(1, 0, 0)[1:]), f'refused 6 {section}'),     # row by row: 6 in row 0 before 7 in row 1
         (put(changed(0, 0, 0)[:1] + changed(1, 0, 101)[1:]), f'refused 7 {section}'),     # 7 in row 0 before 6 in row 1
+        (put(IDENTITIES), f'refused 18 {section}'), (put(PLAIN_BINARY), f'refused 18 {section}'),
+        (put(R + IDENTITIES[:1]), f'refused 18 {section}'), (put(IDENTITIES[:1] + R), f'refused 18 {section}'), (put(R * 3 + R[:3] + IDENTITIES[1:]), f'refused 18 {section}'),
+        (put(IDENTITIES[:1]), f'refused 10 {section}'), (put(R[:2] + IDENTITIES[:1]), f'refused 10 {section}'),   # 10 before 18
+        (put(IDENTITIES + [[0] + R[0][1:]]), f'refused 7 {section}'), (put(IDENTITIES + [[2, 0, 0, 2] + R[0][4:]]), f'refused 9 {section}'),   # and 7 and 9 in a later row
     ]
 cases += [
     (job(m=[2, 1, 1]), 'refused 4 2'), (job(m=[2, 1, 1, 2, 0]), 'refused 4 2'), (job(m=[]), 'refused 4 2'),
@@ -66,6 +73,11 @@ cases += [
     (job(w=[0] * 4097), 'refused 5 3'), (system(R) + system(R) + matrix(M) + two(65535), 'refused 5 3'),
     (job(m=[1, 1, 1, 1]) + b'\0', 'refused 11 2'),                                       # the matrix before the bytes that follow
     (job(a=R[:3], m=[1, 1, 1, 1]), 'refused 10 0'),                                      # the file's order
+    (job(a=IDENTITIES, b=R[:3]), 'refused 18 0'), (job(a=PLAIN_BINARY, b=[]), 'refused 18 0'), (job(a=R[:3], b=IDENTITIES), 'refused 10 0'),
+    (job(b=IDENTITIES, m=[1, 1, 1, 1]), 'refused 18 1'), (job(b=PLAIN_BINARY, m=[2, 1, 1]), 'refused 18 1'), (job(a=IDENTITIES, b=IDENTITIES) + b'\0', 'refused 18 0'),
+    (job(a=IDENTITIES)[:34], 'refused 18 0'), (job(a=IDENTITIES)[:33], 'refused 1 0'),   # a section's contents when it is whole, before the next one's count
+    (job(a=HUNDRED, m=[1, 0, 0, 1], w=[4] * 2), '0 2 200\n1 0 0 1 -\n' + ' '.join(['0'] * 200)),
+    (job(b=HUNDRED), '0 3 3\n2 1 1 2 -\n0 1 1'),
     (job(w=[]), '0 0 0\n2 1 1 2 -\n'), (job(w=[4]), '21 0 0\n2 1 1 2 -\n'),
     (job(m=[1000, 0, 0, 1], w=[]), '0 0 0\n1000 0 0 1 -\n'), (job(m=[2, 0, 0, 2], w=[]), '0 0 0\n1 0 0 1 -\n'),
     (b'', 'refused 1 0'),

@@ -54,7 +54,7 @@ static void runs_on(struct system in, struct system out, long detail) {
 }
 
 static void good_jobs(void) {
-    const struct system systems[5] = {R, B, D, SAME, SIXTEEN};
+    const struct system systems[5] = {R, B, D, HUNDRED, SIXTEEN};
     const int16_t m[4] = {1000, -3, 5, 7};
     for (int k = 0; k < 25; k++) {
         struct system in = systems[k / 5], out = systems[k % 5];
@@ -94,6 +94,22 @@ static void bad_sections(void) {
     refuses(3, 0, "17 digits", 0);
 }
 
+/* 18: behind the whole of its own section, its gap too, and before all that stands behind that section */
+static void not_expanding(void) {
+    const int16_t m[4] = {2, 1, 1, 2}, down[4] = {1, 2, 2, 1};
+    const struct system gap = {3, R.rows}, both = {1, SAME.rows}, bad[2] = {SAME, PLAIN_BINARY};
+    for (int k = 0; k < 2; k++) {
+        write_job(bad[k], R, 4, m, 2, 2), refuses(SLED_REFUSED_EXPAND, 0, "the input system does not expand", k);
+        write_job(R, bad[k], 4, m, 2, 2), refuses(SLED_REFUSED_EXPAND, 1, "the output system does not expand", k);
+        write_job(bad[k], gap, 3, down, 5000, 2), refuses(SLED_REFUSED_EXPAND, 0, "18 before the output system", k);
+        write_job(gap, bad[k], 3, down, 5000, 2), refuses(10, 0, "a gap in the input system before the output system's 18", k);
+        write_job(R, bad[k], 3, down, 5000, 2), refuses(SLED_REFUSED_EXPAND, 1, "18 before the matrix's count", k);
+        write_job(R, bad[k], 4, down, 2, 3), refuses(SLED_REFUSED_EXPAND, 1, "18 before the matrix, and before bytes that follow", k);
+    }
+    write_job(both, R, 4, m, 2, 2), refuses(10, 0, "a gap before 18", 0);
+    write_job(R, both, 4, m, 2, 2), refuses(10, 1, "a gap before 18", 1);
+}
+
 static void short_files(void) {
     write_job(R, R, 4, (const int16_t[]){2, 1, 1, 2}, 3, 3);
     for (size_t whole = file_length, n = 0; n < whole; n++) {
@@ -121,6 +137,7 @@ static void bad_lengths(void) {
 void jobs(void) {
     good_jobs();
     bad_sections();
+    not_expanding();
     short_files();
     bad_lengths();
 }

@@ -22,6 +22,26 @@ static void bad_systems(void) {
     refused(R, gap, START, 10, "output system with a gap", 0);
 }
 
+/* systems that do not expand: behind every other number of their own, and before what is judged later */
+static void not_expanding(void) {
+    const struct system gap = {3, R.rows}, both = {1, SAME.rows}, bad[2] = {SAME, PLAIN_BINARY};
+    for (int k = 0; k < 2; k++) {
+        refused(bad[k], R, START, SLED_REFUSED_EXPAND, "the input system does not expand", k);
+        refused(R, bad[k], START, SLED_REFUSED_EXPAND, "the output system does not expand", k);
+        refused(bad[k], bad[1 - k], START, SLED_REFUSED_EXPAND, "neither expands", k);
+        refused(bad[k], R, WORSE, SLED_REFUSED_EXPAND, "18 of the input system before state", k);
+        refused(R, bad[k], WORSE, SLED_REFUSED_EXPAND, "18 of the output system before state", k);
+        for (int j = 0; j < 4; j++) {
+            refused(bad[k], REFUSED[j], WORSE, SLED_REFUSED_EXPAND, "18 of the input system before output system", 10 * k + j);
+            refused(REFUSED[j], bad[k], WORSE, (uint32_t)(6 + j), "input system before 18 of the output system", 10 * k + j);
+        }
+        refused(bad[k], gap, WORSE, SLED_REFUSED_EXPAND, "18 of the input system before the output system's gap", k);
+        refused(gap, bad[k], WORSE, 10, "the input system's gap before 18 of the output system", k);
+    }
+    refused(both, R, START, 10, "a gap before 18, input system", 0);
+    refused(R, both, START, 10, "a gap before 18, output system", 0);
+}
+
 static void bad_counts(void) {
     for (size_t k = 0; k < 5 + LARGE_COUNTS; k++) {
         struct system none = {k == 0 ? 0 : k < 5 ? 16 + k : LARGE[k - 5], SIXTEEN.rows};
@@ -30,6 +50,8 @@ static void bad_counts(void) {
         refused(none, REFUSED[0], WORSE, 3, "the input system's count before the output system", (long)k);
         refused(REFUSED[0], none, WORSE, 6, "the input system before the output system's count", (long)k);
         refused((struct system){3, R.rows}, none, WORSE, 10, "its gap too", (long)k);
+        refused(SAME, none, WORSE, SLED_REFUSED_EXPAND, "and that it does not expand", (long)k);
+        refused(none, SAME, WORSE, 3, "the input system's count before 18 of the output system", (long)k);
         refused(R, none, WORSE, 3, "the output system's count before the state", (long)k);
     }
 }
@@ -74,6 +96,7 @@ static void bad_lengths(void) {
 
 void refusals(void) {
     bad_systems();
+    not_expanding();
     bad_counts();
     bad_states();
     bad_lengths();

@@ -105,13 +105,24 @@ static void a_third(void) {
     settled(run(right(D, R, 29, 100)), 0, "29 of them", 0);
 }
 
+/* one digit that stands for a hundred zeros fills any smaller room with 0 and stays held; where there is room for the hundred, it is absorbed behind them */
 static void any_room(void) {
     for (size_t room = 0; room <= 128; room++) {
+        size_t zeros = room < 100 ? room : 100;
+        given(HUNDRED, R, ONE, (const uint8_t[]){4}, 1);
+        counted(1, zeros);
+        if (room < 100) stands(1, 0, -(int64_t)room, 1, 4);
+        memset(then.output, 0, zeros);
+        settled(run(right(HUNDRED, R, 1, room)), room < 100 ? 20 : 0, "any room is filled with 0", (long)room);
+    }
+}
+
+/* two identity digits would fill any room with 0 from one digit, and are refused: the number is 18, whatever the room, and nothing is taken or written */
+static void no_endless_row(void) {
+    for (size_t room = 0; room <= 128; room++) {
         given(SAME, SAME, ONE, (const uint8_t[]){0}, 1);
-        counted(1, room);
-        stands(1, 0, 0, 1, 0);
-        memset(then.output, 0, room);
-        settled(run(right(SAME, SAME, 1, room)), 20, "any room is filled with 0", (long)room);
+        counted(0, 0);
+        settled(run(right(SAME, SAME, 1, room)), SLED_REFUSED_EXPAND, "no endless row of zeros", (long)room);
     }
 }
 
@@ -178,6 +189,7 @@ void runs(void) {
     no_digit();
     a_third();
     any_room();
+    no_endless_row();
     any_count();
     after_22();
     pieces();

@@ -1,4 +1,4 @@
-/* The calls that are about one system alone: handing a built-in one out, judging one, and turning rows into columns and back. */
+/* The calls that are about one system alone: handing a built-in one out, and judging one. turning.c turns rows into columns and back. */
 #include "world.h"
 
 /* ---- the built-in systems */
@@ -73,6 +73,54 @@ static void which_rule(void) {
     admits((struct system){4, rows}, 10, "a gap from 99 to infinity", 0);
 }
 
+/* Which rows expand. R's digits cover and expand, so beside them the fifth alone decides. The inverse of x / (x + 1) expands at the points from 0 to 2 and at no others. */
+static void which_expand(void) {
+    static const struct {
+        int16_t row[8];
+        uint32_t expected;
+        const char *what;
+    } rows[] = {
+        {{1, 0, 1, 1, 0, 1, 2, 1}, 0, "all from 0 to 2, and neither end"},
+        {{1, 0, 1, 1, 0, 1, 1, 50}, 0, "all but the left end"},
+        {{1, 0, 1, 1, 99, 50, 2, 1}, 0, "all but the right end"},
+        {{1, 0, 1, 1, 1, 100, 99, 50}, 0, "all, with both ends"},
+        {{1, 0, 1, 1, -1, 100, 99, 50}, 18, "not the left end"},
+        {{1, 0, 1, 1, 1, 100, 99, 49}, 18, "not the right end"},
+        {{1, 0, 1, 1, -1, 1, 3, 1}, 18, "neither end, and all between 0 and 2"},
+        {{1, 0, 1, 1, 1, 1, -1, -2}, 18, "both ends, and not all from 1 round to 1/2"},
+        {{1, 0, 1, 1, 2, 1, 0, -1}, 18, "nothing from 2 round to 0"},
+        {{1, 0, 0, 1, 0, 1, 1, 1}, 18, "the identity"},
+        {{-1, 0, 0, -1, 0, 1, 1, 1}, 18, "the identity, with signs"},
+        {{0, -1, 1, 0, 0, 1, 1, 1}, 18, "a turn"},
+        {{100, -99, -99, 100, -100, 99, -99, 100}, 0, "large numbers, about -1"},
+        {{100, -99, -99, 100, 99, 100, 100, 99}, 18, "large numbers, about 1"},
+    };
+    for (size_t k = 0; k < sizeof rows / sizeof *rows; k++) {
+        int16_t five[40];
+        memcpy(five, R.rows, 32 * sizeof *five);
+        memcpy(five + 32, rows[k].row, sizeof rows[k].row);
+        admits((struct system){5, five}, rows[k].expected, rows[k].what, (long)k);
+    }
+}
+
+/* 18 is behind every other number; and any digit may be the one that does not expand, if it is there */
+static void expanding_last(void) {
+    int16_t rows[128];
+    for (int k = 0; k < 4; k++) {
+        memcpy(rows, SAME.rows, 16 * sizeof *rows);
+        memcpy(rows + 16, REFUSED[k].rows, 8 * sizeof *rows);
+        admits((struct system){3, rows}, (uint32_t)(6 + k), "behind digits that do not expand, 6 to 9", k);
+    }
+    admits((struct system){1, SAME.rows}, 10, "a gap before 18", 0);
+    admits((struct system){2, PLAIN_BINARY.rows}, 10, "a gap, and the digit that does not expand is not there", 0);
+    for (size_t still = 0; still < 16; still++) {
+        memcpy(rows, SIXTEEN.rows, sizeof rows);
+        memcpy(rows + 8 * still, SAME.rows, 4 * sizeof *rows); /* its map alone: the interval stays */
+        for (size_t digits = 4; digits <= 16; digits++)
+            admits((struct system){digits, rows}, still < digits ? 18 : 0, "one identity among R's digits", (long)(100 * digits + still));
+    }
+}
+
 /* R's digits again and again stand in all sixteen places: the count alone says which of them are there */
 static void each_count(void) {
     for (size_t digits = 0; digits <= 20; digits++)
@@ -102,105 +150,16 @@ void admission(void) {
     admits(R, 0, "R", 0);
     admits(B, 0, "B", 0);
     admits(D, 0, "D", 0);
-    admits(SAME, 0, "two identity digits", 0);
+    admits(HUNDRED, 0, "a hundred zeros", 0);
+    admits(SAME, SLED_REFUSED_EXPAND, "two identity digits", 0);
+    admits(PLAIN_BINARY, SLED_REFUSED_EXPAND, "document 004's plain binary system", 0);
     admits((struct system){3, R.rows}, 10, "R without digit 3", 0);
     admits((struct system){1, R.rows}, 10, "one digit", 0);
     for (int k = 0; k < 4; k++) admits(REFUSED[k], (uint32_t)(6 + k), "refused by 6 to 9", k);
     each_rule();
     which_rule();
+    which_expand();
+    expanding_last();
     each_count();
     each_length();
-}
-
-/* ---- rows into columns, and back */
-
-static void columns_of_each_length(void) {
-    int before = passed;
-    for (size_t rows = 0; rows <= LENT; rows++)
-        for (size_t columns = 0; columns <= LENT; columns++) {
-            begin_at_random();
-            uint32_t expected = rows % 8 != 0 || columns != 128 ? 40 : rows == 0 || rows > 128 ? 3 : 0;
-            if (expected == 0) stored(then.in_columns, (struct system){rows / 8, now.rows});
-            settled(sled_columns(now.rows, rows, now.in_columns, columns), expected, "sled_columns of each length", (long)(1000 * rows + columns));
-        }
-    counts_as_one(before);
-}
-
-static void rows_of(size_t digits, size_t columns, size_t rows) {
-    begin_at_random();
-    uint32_t expected = columns != 128 || rows % 8 != 0 || rows / 8 != digits ? 40 : digits == 0 || digits > 16 ? 3 : 0;
-    for (size_t p = 0; p < rows && expected == 0; p++) then.rows[p] = now.in_columns[16 * (p % 8) + p / 8];
-    settled(sled_rows(digits, now.in_columns, columns, now.rows, rows), expected, "sled_rows of each length and count", (long)(1000 * digits + rows));
-}
-
-static void rows_of_each_length(void) {
-    int before = passed;
-    for (size_t k = 0; k <= 20 + LARGE_COUNTS; k++) {
-        size_t digits = k <= 20 ? k : LARGE[k - 21];
-        for (size_t rows = 0; rows <= LENT; rows++) rows_of(digits, SLED_COLUMNS, rows);
-        for (size_t columns = 0; columns <= LENT; columns++) rows_of(digits, columns, digits <= LENT / 8 ? 8 * digits : 0);
-    }
-    counts_as_one(before);
-}
-
-static void rows_there_and_back(size_t digits) {
-    begin_at_random();
-    stored(then.in_columns, (struct system){digits, now.rows});
-    settled(sled_columns(now.rows, 8 * digits, now.in_columns, SLED_COLUMNS), 0, "rows into columns", (long)digits);
-    memset(now.rows, 0, 8 * digits * sizeof *now.rows);
-    settled(sled_rows(digits, now.in_columns, SLED_COLUMNS, now.rows, 8 * digits), 0, "and back", (long)digits);
-}
-
-static void columns_there_and_back(size_t digits) {
-    int16_t numbers[SLED_COLUMNS];
-    begin_at_random();
-    memcpy(numbers, now.rows, sizeof numbers);
-    lend(now.in_columns, (struct system){digits, numbers});
-    memset(now.rows, 0, 8 * digits * sizeof *now.rows);
-    ready();
-    memcpy(then.rows, numbers, 8 * digits * sizeof *numbers);
-    settled(sled_rows(digits, now.in_columns, SLED_COLUMNS, now.rows, 8 * digits), 0, "columns with junk into rows", (long)digits);
-    stored(then.out_columns, (struct system){digits, numbers});
-    settled(sled_columns(now.rows, 8 * digits, now.out_columns, SLED_COLUMNS), 0, "and back, with 0 for the junk", (long)digits);
-}
-
-static void there_and_back(void) {
-    int before = passed;
-    for (int times = 0; times < 100; times++)
-        for (size_t digits = 1; digits <= 16; digits++) {
-            rows_there_and_back(digits);
-            columns_there_and_back(digits);
-        }
-    counts_as_one(before);
-}
-
-/* lengths that would be right if they were cut to 8 or 16 bits, in every call that is lent a system */
-static void long_slices(void) {
-    static int16_t vast[65536 + 128], before[65536 + 128];
-    for (size_t k = 0; k < sizeof vast / sizeof *vast; k++) vast[k] = before[k] = (int16_t)any(65536);
-    begin();
-    int16_t *in = now.in_columns, *out = now.out_columns;
-    for (size_t cut = 256; cut <= 65536; cut *= 256) {
-        settled(sled_admit(4, vast, cut + 128), 40, "admission of long columns", (long)cut);
-        settled(sled_system_r(vast, cut + 128), 40, "R into long columns", (long)cut);
-        settled(sled_run(4, vast, cut + 128, 4, out, SLED_COLUMNS, now.state, 5, now.input, 3, now.output, 9, now.counts, 2), 40, "a run from long columns", (long)cut);
-        settled(sled_run(4, in, SLED_COLUMNS, 4, vast, cut + 128, now.state, 5, now.input, 3, now.output, 9, now.counts, 2), 40, "a run to long columns", (long)cut);
-        settled(sled_read(now.file, 147, vast, cut + 128, out, SLED_COLUMNS, now.matrix, 4, now.found, 4), 40, "reading long columns", (long)cut);
-        settled(sled_read(now.file, 147, in, SLED_COLUMNS, vast, cut + 128, now.matrix, 4, now.found, 4), 40, "reading long columns, second", (long)cut);
-        settled(sled_columns(now.rows, 32, vast, cut + 128), 40, "into long columns", (long)cut);
-        settled(sled_columns(vast, cut + 32, in, SLED_COLUMNS), 3, "from many rows", (long)cut);
-        settled(sled_rows(4, vast, cut + 128, now.rows, 32), 40, "from long columns", (long)cut);
-        settled(sled_rows(4, in, SLED_COLUMNS, vast, cut + 32), 40, "into rows of other digits", (long)cut);
-        settled(sled_rows((cut + 32) / 8, in, SLED_COLUMNS, vast, cut + 32), 3, "into many rows", (long)cut);
-    }
-    settled(sled_columns(vast, 8 * 260, in, SLED_COLUMNS), 3, "from 260 rows", 0);
-    settled(sled_rows(260, in, SLED_COLUMNS, vast, 8 * 260), 3, "into 260 rows", 0);
-    check(memcmp(vast, before, sizeof vast) == 0, "long slices are not written", 0);
-}
-
-void turning(void) {
-    columns_of_each_length();
-    rows_of_each_length();
-    for (junk = NOUGHT; junk < JUNKS; junk++) there_and_back();
-    long_slices();
 }

@@ -58,6 +58,8 @@ void begin_at_random(void) {
      1, -1,  0,  1,  1,  0,  1, -1, \
      1,  0, -1,  1, -1,  1,  0,  1
 static const int16_t r_rows[32] = {R_ROWS}, sixteen_rows[128] = {R_ROWS, R_ROWS, R_ROWS, R_ROWS};
+static const int16_t hundred_rows[40] = {R_ROWS,
+     1,  0, 100, 1,  0,  1,  1, 100};
 static const int16_t b_rows[64] = {
      1,  0,  1,  2, -1,  3,  1,  1,
      1,  1,  0,  2,  0,  1,  2,  1,
@@ -75,7 +77,12 @@ static const int16_t d_rows[32] = {
 static const int16_t same_rows[16] = {
      1,  0,  0,  1,  0,  1,  1,  0,
      1,  0,  0,  1,  1,  0,  0, -1};
-const struct system R = {4, r_rows}, B = {8, b_rows}, D = {4, d_rows}, SAME = {2, same_rows}, SIXTEEN = {16, sixteen_rows};
+static const int16_t plain_binary_rows[24] = {
+     1, -1,  0,  2, -1,  1,  0,  1,
+     1,  1,  0,  2,  0,  1,  1,  1,
+     2,  0,  0,  1,  1,  1,  1, -1};
+const struct system R = {4, r_rows}, B = {8, b_rows}, D = {4, d_rows}, SIXTEEN = {16, sixteen_rows}, HUNDRED = {5, hundred_rows};
+const struct system SAME = {2, same_rows}, PLAIN_BINARY = {3, plain_binary_rows};
 
 static const int16_t six[8] = {101, 0, 0, 1, 0, 1, 1, 1}, seven[8] = {0, 0, 0, 1, 0, 1, 1, 1}, eight[8] = {1, 0, 0, 1, 1, 0, 0, 1}, nine[8] = {2, 0, 0, 2, 0, 1, 1, 1};
 const struct system REFUSED[4] = {{1, six}, {1, seven}, {1, eight}, {1, nine}};
@@ -90,7 +97,8 @@ const size_t LARGE[LARGE_COUNTS] = {
 static int16_t unused(size_t j, size_t a) {
     if (junk == ANY_NUMBERS) return (int16_t)((int)any(65536) - 32768);
     if (junk == SMALL_NUMBERS) return (int16_t)((int)any(5) - 2);
-    return junk == GOOD_DIGITS ? same_rows[8 * (a % 2) + j] : 0;
+    if (junk == GOOD_DIGITS) return b_rows[8 * (a % 8) + j];
+    return junk == IDENTITY_DIGITS ? same_rows[8 * (a % 2) + j] : 0;
 }
 
 static void put_columns(int16_t *columns, struct system s) {

@@ -64,8 +64,11 @@ struct system {
     const int16_t *rows;
 };
 
-/* the built-in systems; two digits that are both the identity, and cover the line with (0, infinity) and (infinity, 0); and sixteen digits, R's four times */
-extern const struct system R, B, D, SAME, SIXTEEN;
+/* the built-in systems; sixteen digits, R's four times; and R's with a fifth digit, which stands for a hundred digits 0 of R */
+extern const struct system R, B, D, SIXTEEN, HUNDRED;
+
+/* systems that cover the line and do not expand: two digits that are both the identity, with (0, infinity) and (infinity, 0); and document 004's plain binary system */
+extern const struct system SAME, PLAIN_BINARY;
 
 /* rows of one digit that are refused by 6, 7, 8 and 9 */
 extern const struct system REFUSED[4];
@@ -74,8 +77,9 @@ extern const struct system REFUSED[4];
 enum { LARGE_COUNTS = 18 };
 extern const size_t LARGE[LARGE_COUNTS];
 
-/* what stands in unused places: 0; any number; small numbers; good digits, which would cover what is not covered and fit where nothing fits */
-extern enum junk { NOUGHT, ANY_NUMBERS, SMALL_NUMBERS, GOOD_DIGITS, JUNKS } junk;
+/* what stands in unused places: 0; any number; small numbers; good digits, which would cover what is not covered and fit where nothing fits; identity digits, which would do
+   so too, and do not expand */
+extern enum junk { NOUGHT, ANY_NUMBERS, SMALL_NUMBERS, GOOD_DIGITS, IDENTITY_DIGITS, JUNKS } junk;
 
 void stored(int16_t *columns, struct system s); /* the columns that the library has to write: 0 in unused places */
 void lend(int16_t *columns, struct system s);   /* the columns that it is lent: junk in unused places; of more than 16 digits, the first 16 */

@@ -1,10 +1,12 @@
 //! Damage to job files. Most of it breaks a rule of document 01, and some of it only comes close.
 
 use crate::chance::Chance;
-use crate::draw_systems::{any_row, positive_matrix};
+use crate::draw_systems::{any_row, expanding_row, positive_matrix};
+use crate::expanding::expands;
 use crate::plane::gcd;
-use crate::reading::Job;
-use crate::systems::{w, Row};
+use crate::reading::{judge_system, Job};
+use crate::systems::{f, w, Row};
+use crate::unexpanding::stop_growth;
 
 // Damage to a file's bytes.
 
@@ -66,7 +68,7 @@ pub fn fill_to_limit(chance: &mut Chance, job: &mut Job) {
     let count = chance.pick(&[15, 16, 16, 17, 17, 18]);
     let rows = some_system(chance, job);
     while rows.len() < count {
-        let row = if chance.once_in(2) { chance.pick(rows) } else { any_row(chance) };
+        let row = if chance.once_in(2) { chance.pick(rows) } else { expanding_row(chance) };
         rows.push(row);
     }
 }
@@ -87,9 +89,13 @@ pub fn set_to_limit(chance: &mut Chance, job: &mut Job, which: usize) {
     **number = chance.pick(&others) * chance.pick(&[1, -1]);
 }
 
-/// One row, or two of one system, breaks a rule for rows; perhaps two rules.
 pub fn break_row(chance: &mut Chance, job: &mut Job) {
     let rows = some_system(chance, job);
+    break_a_row(chance, rows);
+}
+
+/// One row, or two of one system, breaks a rule for rows; perhaps two rules.
+fn break_a_row(chance: &mut Chance, rows: &mut [Row]) {
     for _ in 0..1 + chance.below(2) {
         let place = chance.below(rows.len());
         for _ in 0..1 + chance.below(2) {
@@ -100,7 +106,7 @@ pub fn break_row(chance: &mut Chance, job: &mut Job) {
 
 fn break_rule(chance: &mut Chance, row: &mut Row) {
     let factor = chance.pick(&[2, 3, -1, 5]);
-    match chance.below(10) {
+    match chance.below(12) {
         // det F is 0, or below 0.
         0 => row.copy_within(0..2, 2),
         1 => row[..4].rotate_left(2),
@@ -112,33 +118,64 @@ fn break_rule(chance: &mut Chance, row: &mut Row) {
         // F or an end is not in lowest terms, or turned round.
         6 => row[..4].iter_mut().for_each(|n| *n *= factor),
         7 => row[4..6].iter_mut().for_each(|n| *n *= factor),
-        8 => row[6..].iter_mut().for_each(|n| *n *= factor),
+        8 | 9 => row[6..].iter_mut().for_each(|n| *n *= factor),
         _ => row[chance.below(8)] = chance.pick(&[101, -101, 200]),
     }
 }
 
-/// A digit goes, or an interval becomes a little shorter; or the rows are any rows.
 pub fn break_cover(chance: &mut Chance, job: &mut Job) {
     let rows = some_system(chance, job);
+    open_gap(chance, rows);
+}
+
+/// A digit goes, or an interval becomes a little shorter; or the rows are any rows.
+fn open_gap(chance: &mut Chance, rows: &mut Vec<Row>) {
     let place = chance.below(rows.len());
     match chance.below(6) {
         0 | 1 => drop(rows.remove(place)),
-        2 | 3 => shorten(chance, &mut rows[place]),
+        2 | 3 => move_end(chance, &mut rows[place], 1),
         4 => rows.truncate(1 + chance.below(2)),
         _ => *rows = (0..1 + chance.below(16)).map(|_| any_row(chance)).collect(),
     }
 }
 
-/// An end moves towards the other one: the more steps, the less.
-fn shorten(chance: &mut Chance, row: &mut Row) {
+/// An end moves towards the other one (1) or away from it (−1): the more steps, the less.
+pub fn move_end(chance: &mut Chance, row: &mut Row, towards: i128) {
     let ends = [w(row).left, w(row).right];
     let which = chance.below(2);
     let steps = chance.pick(&[1, 1, 2, 5, 20, 60]);
     let [moved, other] = [ends[which], ends[1 - which]];
-    let end = [steps * moved[0] + other[0], steps * moved[1] + other[1]];
+    let end = [steps * moved[0] + towards * other[0], steps * moved[1] + towards * other[1]];
     let end = end.map(|n| n / gcd(&end).max(1));
     if end.iter().all(|n| n.abs() <= 100) {
         row[4 + 2 * which..][..2].copy_from_slice(&end);
+    }
+}
+
+/// A row of one system does not expand. Perhaps something else is broken besides: in the same system a gap (10) or a row that is no digit (6 to 9) is
+/// told first; and where both systems are broken, the input system's number is told.
+pub fn break_growth(chance: &mut Chance, job: &mut Job) {
+    let (rows, others) = if chance.once_in(2) { (&mut job.input, &mut job.output) } else { (&mut job.output, &mut job.input) };
+    stop_growth(chance, rows);
+    match chance.below(10) {
+        0 | 1 => open_gap_besides(chance, rows),
+        2 => break_a_row(chance, rows),
+        3 => stop_growth(chance, others),
+        4 => open_gap(chance, others),
+        5 => break_a_row(chance, others),
+        _ => (),
+    }
+}
+
+/// A gap in a system that has a row that does not expand, and keeps one.
+fn open_gap_besides(chance: &mut Chance, rows: &mut Vec<Row>) {
+    for _ in 0..20 {
+        let mut with_gap = rows.clone();
+        open_gap(chance, &mut with_gap);
+        if judge_system(&with_gap) == Err(10) && with_gap.iter().any(|row| !expands(f(row), w(row))) {
+            *rows = with_gap;
+            return;
+        }
     }
 }
 

@@ -2,6 +2,8 @@
 
 use crate::chance::Chance;
 use crate::damage;
+use crate::draw_full::full_output;
+use crate::draw_stretching::{decimal, stretching, SCALING};
 use crate::draw_systems::*;
 use crate::plane::{determinant, product, Matrix};
 use crate::reading::Job;
@@ -11,27 +13,28 @@ use crate::systems::{Row, B, D, R};
 /// goes through places one after another goes by it.
 pub type Kind = (usize, &'static str, fn(&mut Chance, usize) -> Vec<u8>);
 
-/// The kinds take turns: of any 40 cases in a row, each kind has its share.
-pub const SLOTS: usize = 40;
+/// The kinds take turns: of any 47 cases in a row, each kind has its share.
+pub const SLOTS: usize = 47;
 
-pub const KINDS: [Kind; 20] = [
+pub const KINDS: [Kind; 21] = [
     (5, "built-in systems, a word that names a fraction", |c, _| with_systems(c, built_in, built_in, word_of_fraction)),
     (4, "built-in systems, digits by chance", |c, _| with_systems(c, built_in, built_in, digits_by_chance)),
     (3, "built-in systems in other coordinates", |c, _| with_systems(c, changed, any_system, some_word)),
     (4, "covers between points by chance", |c, _| with_systems(c, any_system, cover, some_word)),
     (3, "digits in another order, twice, not needed", |c, _| with_systems(c, decorated, decorated, some_word)),
     (2, "digits that stretch, entries near the range's ends", |c, _| with_systems(c, stretching, stretching_or_other, digits_by_chance)),
-    (1, "powers of ten, entries at the range's ends", |c, _| powers_of_ten(c)),
+    (2, "powers of ten, entries at the range's ends", |c, _| powers_of_ten(c)),
     (1, "long words", |c, _| long_word(c)),
-    (1, "outputs that just fit, or do not", full_output),
+    (2, "outputs that just fit, or do not", full_output),
     (1, "damaged: the document's job, cut at every length", |_, turn| layout(&documents_job())[..turn % 148].to_vec()),
     (1, "damaged: a job cut somewhere", |c, _| damaged_file(c, damage::cut)),
     (1, "damaged: bytes follow", |c, _| damaged_file(c, damage::append)),
     (2, "damaged: another count", |c, _| damaged_file(c, damage::change_count)),
     (1, "counts at their limits, with all that is counted", |c, _| damaged_job(c, damage::fill_to_limit)),
     (2, "damaged: each number of a job in turn, at a limit", number_in_turn),
-    (2, "damaged: a row", |c, _| damaged_job(c, damage::break_row)),
+    (3, "damaged: a row", |c, _| damaged_job(c, damage::break_row)),
     (2, "damaged: a cover", |c, _| damaged_job(c, damage::break_cover)),
+    (4, "damaged: a row that does not expand", |c, _| damaged_job(c, damage::break_growth)),
     (1, "damaged: the matrix", |c, _| damaged_job(c, damage::break_matrix)),
     (2, "damaged: several things at once", |c, _| damaged_often(c)),
     (1, "damaged: bytes by chance", |c, _| damaged_file(c, damage::change_bytes)),
@@ -87,7 +90,7 @@ fn with_systems(chance: &mut Chance, input: System, output: System, word: Word) 
     let length = match chance.below(12) {
         0 => chance.below(2),
         1 => chance.below(1000),
-        2..=6 => chance.below(12),
+        2..=4 => chance.below(12),
         _ => chance.below(80),
     };
     let mut word = word(chance, &input, length);
@@ -111,7 +114,7 @@ fn some_word(chance: &mut Chance, rows: &[Row], length: usize) -> Vec<u8> {
 }
 
 /// Digits of the whole system or of a small part of it.
-fn digits_by_chance(chance: &mut Chance, rows: &[Row], length: usize) -> Vec<u8> {
+pub fn digits_by_chance(chance: &mut Chance, rows: &[Row], length: usize) -> Vec<u8> {
     let part = if chance.once_in(3) { 1 + chance.below(rows.len()) } else { rows.len() };
     let first = chance.below(rows.len());
     (0..length).map(|_| ((first + chance.below(part)) % rows.len()) as u8).collect()
@@ -124,51 +127,17 @@ fn long_word(chance: &mut Chance) -> Vec<u8> {
     layout(&Job { input, output, matrix: matrix(chance), word })
 }
 
+/// Most digits of the word multiply, or most divide; a 1 beside the powers of ten leaves nothing to cancel.
 fn powers_of_ten(chance: &mut Chance) -> Vec<u8> {
     let (input, output) = (decimal(chance), chance.pick::<System>(&[decimal, built_in])(chance));
     let [a, d] = [0; 2].map(|_| chance.pick(&[1, 1, 10, 100, 1000]));
-    let length = chance.below(20);
-    let word = digits_by_chance(chance, &input, length);
-    layout(&Job { input, output, matrix: [a, 0, 0, d], word })
-}
-
-fn full_output(chance: &mut Chance, turn: usize) -> Vec<u8> {
-    let job = match turn % 6 {
-        0 => one_digit_for_ever(chance),
-        1 => room_and_range(chance),
-        _ => more_digits_out(chance),
-    };
-    layout(&job)
-}
-
-/// Two digits that change nothing, of which one fits for ever.
-fn one_digit_for_ever(chance: &mut Chance) -> Job {
-    let rows = vec![[1, 0, 0, 1, 0, 1, 1, 0], [1, 0, 0, 1, 1, 0, 0, -1]];
-    let word = digits_by_chance(chance, &rows, 3);
-    Job { input: rows.clone(), output: rows, matrix: matrix(chance), word }
-}
-
-/// The first two digits of the word bring X to 1 0 0 d. The third is held for ever, and each digit that is given out takes d from the second entry:
-/// after n digits it is −nd. With d = 122070 the room (8192) and the range end at the same step, with the others one of them ends first.
-fn room_and_range(chance: &mut Chance) -> Job {
-    let (m, k, l) = chance.pick(&[(939, 65, 2), (939, 65, 2), (763, 80, 2), (904, 45, 3)]);
-    let input = vec![[1, 0, 0, k, -1, 1, 2, -1], [1, 0, 0, l, -1, 1, 2, -1], [1, 0, 0, 1, 0, 1, 1, 1], [1, 0, 0, 1, -3, 1, 0, 1]];
-    let output = vec![[1, 1, 0, 1, 1, 0, -1, -1], [1, 0, 0, 1, 0, 1, 1, 0]];
-    Job { input, output, matrix: [1, 0, 0, m], word: vec![0, 1, 2] }
-}
-
-/// Two or three digits of R for one, and now and then a byte that is no digit behind them.
-fn more_digits_out(chance: &mut Chance) -> Job {
-    let input = power_of_r(chance);
-    // 2 · 4096 = 8192, and 3 · 2731 = 8193.
-    let length = if input.len() == 8 { 4097 - chance.below(4).max(1) } else { 2733 - chance.below(5) };
-    // The first half of the digits is for the numbers above 0.
-    let mut word = digits_by_chance(chance, &input[..input.len() / 2], length);
-    if word.len() < 4096 && chance.once_in(4) {
-        word.push(16);
-    }
-    let matrix = chance.pick(&[[1, 0, 0, 1], [1, 0, 0, 1], [1, 1, 0, 1], [2, 0, 0, 1]]);
-    Job { input, output: R.to_vec(), matrix, word }
+    let (half, first) = (SCALING / 2, chance.pick(&[0, SCALING / 2]));
+    let beside = chance.pick(&[0, 0, 1, -1]);
+    let matrix = if first == 0 { [a, beside, 0, d] } else { [a, 0, beside, d] };
+    let length = chance.below(30);
+    let mut digit = || if chance.once_in(8) { chance.below(input.len()) } else { first + chance.below(half) } as u8;
+    let word = (0..length).map(|_| digit()).collect();
+    layout(&Job { input, output, matrix, word })
 }
 
 /// Matrices with determinant above 0 and entries in −1000..1000: tiny and huge ones, with determinant 1 or a large one, cancelled or not.
@@ -239,7 +208,8 @@ fn number_in_turn(chance: &mut Chance, turn: usize) -> Vec<u8> {
 fn damaged_often(chance: &mut Chance) -> Vec<u8> {
     let mut job = whole_job(chance);
     for _ in 0..2 {
-        let damage = chance.pick::<fn(&mut Chance, &mut Job)>(&[damage::set_any_to_limit, damage::break_row, damage::break_cover, damage::break_matrix]);
+        let of_rows = [damage::set_any_to_limit, damage::break_row, damage::break_cover, damage::break_growth];
+        let damage = if chance.once_in(5) { damage::break_matrix } else { chance.pick::<fn(&mut Chance, &mut Job)>(&of_rows) };
         damage(chance, &mut job);
     }
     let mut file = layout(&job);

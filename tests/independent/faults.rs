@@ -10,6 +10,10 @@ pub enum Fault {
     PositiveSign,
     CoverOfEnds,
     CoverByOpen,
+    ClosedGrowth,
+    GrowthOfEnds,
+    GrowsNowhere,
+    GrowthBeforeCover,
     LowByteOfCount,
     LengthBeforeCount,
     SeventeenDigits,
@@ -31,13 +35,17 @@ pub enum Fault {
 }
 
 /// Each fault with its name on the command line and what goes wrong.
-pub const FAULTS: [(Fault, &str, &str); 24] = [
+pub const FAULTS: [(Fault, &str, &str); 28] = [
     (Fault::BothEnds, "both-ends", "inclusion is judged by both ends alone"),
     (Fault::EqualShutOut, "equal-shut-out", "an interval is not included in itself"),
     (Fault::ProductIn64Bits, "product-in-64-bits", "two determinants are multiplied in 64 bits to get a sign"),
     (Fault::PositiveSign, "positive-sign", "cancelling makes the first entry's sign positive"),
     (Fault::CoverOfEnds, "cover-of-ends", "a system is admitted if the intervals' ends are covered"),
     (Fault::CoverByOpen, "cover-by-open", "a point has to be inside an interval to be covered"),
+    (Fault::ClosedGrowth, "closed-growth", "a row has to expand at the ends of its interval too"),
+    (Fault::GrowthOfEnds, "growth-of-ends", "the ends alone decide whether a row expands"),
+    (Fault::GrowsNowhere, "grows-nowhere", "a row that neither stretches nor shrinks anything passes"),
+    (Fault::GrowthBeforeCover, "growth-before-cover", "18 is given before 10"),
     (Fault::LowByteOfCount, "low-byte-of-count", "the high byte of a count is passed over"),
     (Fault::LengthBeforeCount, "length-before-count", "a system's length is tested before its count"),
     (Fault::SeventeenDigits, "seventeen-digits", "a system may have 17 digits"),

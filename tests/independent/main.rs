@@ -1,10 +1,13 @@
-//! An implementation of document 01, written from its sentences alone, to be held against the proved programs; and a generator of job files.
-//! What it can be asked for is in USAGE below.
+//! An implementation of document 01 and of document 02's request T-04, written from their sentences alone, to be held against the proved programs;
+//! and a generator of job files. What it can be asked for is in USAGE below.
 
 mod chance;
 mod damage;
+mod draw_full;
 mod draw_jobs;
+mod draw_stretching;
 mod draw_systems;
+mod expanding;
 mod faults;
 mod plane;
 mod reading;
@@ -13,6 +16,7 @@ mod self_test;
 mod show;
 mod systems;
 mod trace;
+mod unexpanding;
 
 use std::io::{stdin, stdout, BufWriter, Read, Write};
 

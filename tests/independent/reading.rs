@@ -1,5 +1,6 @@
-//! "Job file" and "Numbers of refusal" of document 01.
+//! "Job file" and "Numbers of refusal" of document 01, with number 18 of document 02 (T-04).
 
+use crate::expanding::expands;
 use crate::faults::{planted, Fault};
 use crate::plane::{covered, det, determinant, gcd, Interval, Matrix};
 use crate::systems::{f, w, Row};
@@ -68,6 +69,7 @@ fn take_numbers(rest: &mut &[u8], how_many: usize) -> Result<Vec<i128>, u8> {
 }
 
 /// "A section's count present (1), count right (3), section present (1), then contents: row by row 6, 7, 8, 9; then 10."
+/// "18, a row not expanding, directly after 10" (T-04).
 fn read_system(rest: &mut &[u8]) -> Result<Vec<Row>, u8> {
     let count = take_count(rest)?;
     if planted(Fault::LengthBeforeCount) {
@@ -82,17 +84,22 @@ fn read_system(rest: &mut &[u8]) -> Result<Vec<Row>, u8> {
 }
 
 /// "Admitted if every number lies in −100..100, det F > 0, det W < 0, the four numbers of F have greatest common divisor 1, so have the two numbers
-/// of each end, and every point lies in the closed interval of some digit."
+/// of each end, and every point lies in the closed interval of some digit." And "a system must expand" (T-04).
 pub fn judge_system(rows: &[Row]) -> Result<(), u8> {
     refuse_if(planted(Fault::RangesFirst) && rows.iter().flatten().any(|n| n.abs() > 100), 6)?;
     for row in rows {
         judge_row(row)?;
     }
+    let growing = refuse_if(!rows.iter().all(|row| expands(f(row), w(row))), 18);
+    if planted(Fault::GrowthBeforeCover) {
+        growing?;
+    }
     let intervals: Vec<Interval> = rows.iter().map(w).collect();
-    refuse_if(!covered(&intervals), 10)
+    refuse_if(!covered(&intervals), 10)?;
+    growing
 }
 
-fn judge_row(row: &Row) -> Result<(), u8> {
+pub fn judge_row(row: &Row) -> Result<(), u8> {
     let Interval { left, right } = w(row);
     refuse_if(row.iter().any(|n| n.abs() > 100), 6)?;
     refuse_if(planted(Fault::IntervalFirst) && det(left, right) >= 0, 8)?;

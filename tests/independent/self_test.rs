@@ -1,10 +1,15 @@
-//! This implementation held against what document 01 says itself: its examples (P1 to P12 and the other runs), and its own test of inclusion.
+//! This implementation held against what document 01 says itself: its examples (P1 to P12 and the other runs), and its own test of inclusion; and
+//! against what document 02 says of systems that expand (T-04).
 
+use crate::draw_full::room_and_range;
 use crate::draw_jobs::{documents_job, layout};
-use crate::plane::{cancel, covered, det, in_closed, inside, included, Interval, Point};
-use crate::reading::{read, Job};
+use crate::draw_stretching::hundred_of;
+use crate::expanding::{expands, growth, rate};
+use crate::plane::{cancel, covered, det, determinant, in_closed, inside, included, Interval, Matrix, Point};
+use crate::reading::{judge_system, read, Job};
 use crate::running::{printed, run};
-use crate::systems::{Row, B, D, R};
+use crate::systems::{f, w, Row, B, D, R};
+use crate::unexpanding::{IDENTITIES, PLAIN_BINARY};
 
 pub fn all() {
     let mut tests = Vec::new();
@@ -12,8 +17,12 @@ pub fn all() {
     runs(&mut tests);
     refusals(&mut tests);
     long_runs(&mut tests);
+    full_rooms(&mut tests);
+    expanding_systems(&mut tests);
+    order_of_18(&mut tests);
     tests.push(("inclusion by points is document 01's test", inclusion_both_ways()));
     tests.push(("a system with a gap is not covered", gaps_are_seen()));
+    tests.push(("small digits expand exactly if no point inside fails", growth_is_seen()));
     let failed: Vec<_> = tests.iter().filter(|test| !test.1).collect();
     failed.iter().for_each(|test| println!("failed: {}", test.0));
     println!("{} passed, {} failed", tests.len() - failed.len(), failed.len());
@@ -81,12 +90,53 @@ fn long_runs(tests: &mut Tests) {
     let third: Vec<u8> = (0..40).map(|n| if n % 2 == 0 { 2 } else { 0 }).collect();
     tests.push(("D to R, 40 digits", prints(&job(&D, &R, [3, -1, 0, 1], &third), "22 30 0\n3 1 0 536870912 0\n\n")));
     tests.push(("D to R, 29 digits", prints(&job(&D, &R, [3, -1, 0, 1], &third[..29]), "0 29 0\n3 1 0 536870912 -\n\n")));
-    let halves = [[1, 0, 0, 1, 0, 1, 1, 0], [1, 0, 0, 1, 1, 0, 0, -1]];
-    let fills = |room| {
-        let (end, run) = run(&job(&halves, &halves, [1, 0, 0, 1], &[0]), room);
-        (end, run.taken, run.x, run.held) == (20, 1, [1, 0, 0, 1], Some(0)) && run.written == vec![0; room]
+}
+
+fn full_rooms(tests: &mut Tests) {
+    let zeros = |word: &[u8], room| run(&job(&hundred_of(0), &R, [1, 0, 0, 1], word), room);
+    tests.push(("a hundred zeros", hundred_of(0) == [&R[..], &[[1, 0, 100, 1, 0, 1, 1, 100]]].concat()));
+    let fills = |room: usize| {
+        let (end, run) = zeros(&[4], room);
+        (end, run.taken, run.x, run.held) == (20, 1, [1, 0, -(room as i128), 1], Some(4)) && run.written == vec![0; room]
     };
-    tests.push(("two digits that change nothing fill any room", [0, 1, 2, 100, 8192].into_iter().all(fills)));
+    tests.push(("one digit fills a room below a hundred", (0..100).all(fills)));
+    let (end, exact) = zeros(&[4], 100);
+    tests.push(("and just fills a hundred", (end, exact.taken, exact.x, exact.held) == (0, 1, [1, 0, 0, 1], None) && exact.written == vec![0; 100]));
+    let (end, large) = zeros(&[4; 100], 8192);
+    tests.push(("82 digits fill 8192", (end, large.taken, large.x, large.held) == (20, 82, [1, 0, -92, 1], Some(4)) && large.written == vec![0; 8192]));
+    // The end and the digits written, in the program's room and with one place more.
+    let ends = |first| [8192, 8193].map(|room| run(&room_and_range(first), room)).map(|(end, run)| (end, run.written.len()));
+    tests.push(("room and range end at the same step", ends(939) == [(20, 8192), (22, 8192)]));
+    tests.push(("the range ends first", ends(763) == [(22, 8191), (22, 8191)]));
+    tests.push(("the room ends first", ends(904) == [(20, 8192), (20, 8193)]));
+}
+
+fn expanding_systems(tests: &mut Tests) {
+    let judged_with = |row: Row| judge_system(&[&R[..], &[row]].concat());
+    tests.push(("R, B and D pass", [&R[..], &B, &D].iter().all(|rows| judge_system(rows) == Ok(()))));
+    tests.push(("so do R and a hundred of one of its digits", (0..4).all(|b| judge_system(&hundred_of(b)) == Ok(()))));
+    tests.push(("so do all their digits together", judge_system(&[&R[..], &B, &D].concat()) == Ok(())));
+    let last_run = job(&IDENTITIES, &IDENTITIES, [1, 0, 0, 1], &[0]);
+    tests.push(("document 01's last run, two digits that change nothing", refused(&last_run, 18, 0) && prints(&last_run, "refused 18 0\n")));
+    tests.push(("the same as output system", refused(&job(&R, &IDENTITIES, [1, 0, 0, 1], &[0]), 18, 1)));
+    tests.push(("document 004's plain binary system", judge_system(&PLAIN_BINARY) == Err(18)));
+    tests.push(("at 5/4 the rate is 82/89", inside(w(&PLAIN_BINARY[2]), [5, 4]) && rate(f(&PLAIN_BINARY[2]), [5, 4]) == (82, 89)));
+    // 2x expands exactly where x² > 2, and 100x where x² > 100.
+    tests.push(("both ends expand, 0 between them does not", judged_with([2, 0, 0, 1, -2, 1, 2, 1]) == Err(18)));
+    tests.push(("the left end does not expand", judged_with([2, 0, 0, 1, 1, 1, 3, -2]) == Err(18)));
+    tests.push(("the right end does not expand", judged_with([2, 0, 0, 1, 3, 2, 1, -1]) == Err(18)));
+    tests.push(("the ends need not expand", judged_with([100, 0, 0, 1, 10, 1, 10, -1]) == Ok(())));
+    tests.push(("nothing expands or shrinks", judged_with([3, -4, 4, 3, 0, 1, 1, 1]) == Err(18)));
+}
+
+/// "Refusals: 18, a row not expanding, directly after 10."
+fn order_of_18(tests: &mut Tests) {
+    let [same, other] = IDENTITIES;
+    tests.push(("a gap is told before 18", judge_system(&[same]) == Err(10)));
+    tests.push(("a row that is no digit too", judge_system(&[same, other, [1, 0, 0, 0, 0, 1, 1, 0]]) == Err(7)));
+    tests.push(("18 of the input system before 10 of the other", refused(&job(&IDENTITIES, &R[..3], [1, 0, 0, 1], &[]), 18, 0)));
+    tests.push(("10 of the input system before 18 of the other", refused(&job(&R[..3], &IDENTITIES, [1, 0, 0, 1], &[]), 10, 0)));
+    tests.push(("18 before the matrix", refused(&job(&R, &IDENTITIES, [1, 1, 1, 1], &[]), 18, 1)));
 }
 
 /// All intervals with ends of numbers up to that size.
@@ -114,4 +164,33 @@ fn gaps_are_seen() -> bool {
     let all = small_intervals(2);
     let grid: Vec<Point> = (-9..=9).flat_map(|z0| (0..=9).map(move |z1| [z0, z1])).filter(|z| *z != [0, 0]).collect();
     all.iter().all(|&i| all.iter().all(|&j| covered(&[i, j]) == grid.iter().all(|&z| in_closed(i, z) || in_closed(j, z))))
+}
+
+/// All matrices with determinant above 0 and entries of at most that size.
+fn small_matrices(size: i128) -> Vec<Matrix> {
+    let numbers = || -size..=size;
+    let rows = || numbers().flat_map(move |a| numbers().map(move |b| [a, b]));
+    let all = rows().flat_map(|[a, b]| rows().map(move |[c, d]| [a, b, c, d]));
+    all.filter(|&m| determinant(m) > 0).collect()
+}
+
+/// A small digit that is said to expand does so at each point of a grid inside its interval, and one that is said not to fails at some point kx + ly
+/// with k and l from 1 to 600. With numbers up to 2 that is far enough. In whole numbers, growth(kx + ly) = k²p + klm + l²q, and p and q are within
+/// ±128, m within ±384. With p < 0, l = 1 and k > 384 + 128 it is below 0, and so with q. Otherwise its least value is at k = 2q − m, l = 2p − m
+/// (or wherever one likes, if it is 0 everywhere).
+fn growth_is_seen() -> bool {
+    let intervals = small_intervals(2);
+    let grid: Vec<Point> = (-20..=20).flat_map(|z0| (0..=20).map(move |z1| [z0, z1])).filter(|z| *z != [0, 0]).collect();
+    small_matrices(2).into_iter().all(|f| {
+        intervals.iter().all(|&i| match expands(f, i) {
+            true => grid.iter().all(|&z| !inside(i, z) || growth(f, z) > 0),
+            false => fails_at(f, i).is_some_and(|z| inside(i, z)),
+        })
+    })
+}
+
+/// A point kx + ly inside (x, y) at which the digit does not expand.
+fn fails_at(f: Matrix, Interval { left: x, right: y }: Interval) -> Option<Point> {
+    let pairs = (1..=600).flat_map(|k| (1..=k).flat_map(move |l| [(k, l), (l, k)]));
+    pairs.map(|(k, l)| [k * x[0] + l * y[0], k * x[1] + l * y[1]]).find(|&z| growth(f, z) <= 0)
 }

@@ -1,16 +1,18 @@
 -- The judgement of a whole system says what document 01 says: "Admitted if every number lies in −100..100, det F > 0, det W < 0, the four numbers of F have
 -- greatest common divisor 1, so have the two numbers of each end, and every point lies in the closed interval of some digit"; and each number of refusal is "given
--- exactly when" its line of the table holds, in the order "a system has 0 or more than 16 digits" (3), then "row by row 6, 7, 8, 9; then 10".
+-- exactly when" its line of the table holds, in the order "a system has 0 or more than 16 digits" (3), then "row by row 6, 7, 8, 9; then 10", and then document 02's
+-- "18, a row not expanding, directly after 10".
 --
 -- `admitted-only` takes a sentence and finds how the count, the search for the first row that is refused and the cover come out. The row that the search finds has its own
--- answer (`row-says`), behind rows that are all digits; where it finds none, all rows are digits, and the cover theorem says what the cover test means. So one of the
--- sentences always holds, and the answer that is given is its answer (`admitted-says`). Both together are `admitted-exactly`.
-use Rattle.whole.proofs.Laws.{_≡_, refl, sym, _∙_, ap, subst, Bool, true, false, cond, false≢true, _⊎_, inl, inr, _↔_, Option, none, some, ℕ, _-_, _≤_, _<_, eq-zero-or-pos, arith, le-leb, lt-leb, first, first-found, first-none, found-first, none-first}
+-- answer (`row-says`), behind rows that are all digits; where it finds none, all rows are digits, and the theorems on the cover and on expanding say what the two tests mean.
+-- So one of the sentences always holds, and the answer that is given is its answer (`admitted-says`). Both together are `admitted-exactly`.
+use Rattle.whole.proofs.Laws.{_≡_, refl, sym, _∙_, ap, ap₂, subst, Bool, true, false, cond, false≢true, _⊎_, inl, inr, _↔_, Option, none, some, ℕ, _-_, _≤_, _<_, eq-zero-or-pos, arith, le-leb, lt-leb, first, first-found, first-none, found-first, none-first}
 use Rattle.digits.proofs.Laws.{System, interval, transformation, Small}
 use Rattle.cover.proofs.Laws.{covered?, CoverSays, cover-says, one-digit}
-use Rattle.admission.specs.Types.{Admission, Admitted, WrongCount, OutOfRange, NotAbove, NotBelow, NotLowest, Uncovered}
-use Rattle.admission.specs.Admission.{refused?, verdictOfRow, firstVerdict, rowsVerdict, admissionOf}
-use Rattle.admission.specs.Admitted.{DigitAt, Digits, Admissible, RowCase, FirstRow, SystemCase}
+use Rattle.expanding.proofs.Laws.{allExpand?, AllExpandSays, all-expand-says, SmallRows}
+use Rattle.admission.specs.Types.{Admission, Admitted, WrongCount, OutOfRange, NotAbove, NotBelow, NotLowest, Uncovered, NotExpanding}
+use Rattle.admission.specs.Admission.{refused?, verdictOfRow, behindRows, firstVerdict, rowsVerdict, admissionOf}
+use Rattle.admission.specs.Admitted.{DigitAt, Digits, Full, Admissible, RowCase, FirstRow, SystemCase}
 use Rattle.admission.proofs.Numbers.{not-refused}
 use Rattle.admission.proofs.RowSays.{row-says, row-only}
 
@@ -34,6 +36,13 @@ small s d = record { small = λ a h. d a h .in-range .numbers-w }
 
 digits-cover : (s : System) → 1 ≤ s .count → Digits s → CoverSays s
 digits-cover s some-digit d = cover-says s some-digit (small s d) (λ a h. d a h .interval)
+
+-- so are all their numbers, and so the test of the rows says what it should
+pub small-rows : (s : System) → Digits s → SmallRows s
+small-rows s d = record { numbers-f = λ a h. d a h .in-range .numbers-f; numbers-w = λ a h. d a h .in-range .numbers-w }
+
+digits-expand : (s : System) → Digits s → AllExpandSays s
+digits-expand s d = all-expand-says s (λ a h. d a h .above) (λ a h. d a h .interval)
 
 -- ---- where a sentence holds, its answer is given
 
@@ -60,15 +69,19 @@ first-row {s} v e f =
     }) in
     p ∙ ap (firstVerdict s) (sym found) ∙ counted s (f .some-digits) (f .few-digits)
 
--- no row is refused, and the cover comes out so
-all-digits : (s : System) {t : Bool} → covered? s ≡ t → 1 ≤ s .count → s .count ≤ 16 → Digits s → cond t Admitted Uncovered ≡ admissionOf s
+-- no row is refused, and what is asked behind the rows comes out so
+all-digits : (s : System) {v : Admission} → v ≡ behindRows (covered? s) (allExpand? s) → 1 ≤ s .count → s .count ≤ 16 → Digits s → v ≡ admissionOf s
 unfolding rowsVerdict
 all-digits s e h k d =
     let none = none-first (refusedAt s) (s .count) 0 (λ a i j. says-digit s a (d a (omega arith))) in
-    ap (λ (t : Bool). cond t Admitted Uncovered) (sym e) ∙ ap (firstVerdict s) (sym none) ∙ counted s h k
+    e ∙ ap (firstVerdict s) (sym none) ∙ counted s h k
+
+-- no point is left out: whether every row expands decides
+all-covered : (s : System) {t : Bool} → allExpand? s ≡ t → 1 ≤ s .count → s .count ≤ 16 → Digits s → Full s → cond t Admitted NotExpanding ≡ admissionOf s
+all-covered s e h k d full = all-digits s (sym (ap₂ behindRows (digits-cover s h d .full .1 full) e)) h k d
 
 pub admitted-only : (s : System) (v : Admission) → SystemCase s v → v ≡ admissionOf s
-admitted-only s Admitted c = let says = digits-cover s (c .some-digits) (c .digits) in all-digits s (says .full .1 (c .cover)) (c .some-digits) (c .few-digits) (c .digits)
+admitted-only s Admitted c = all-covered s (digits-expand s (c .digits) .all .1 (c .expand)) (c .some-digits) (c .few-digits) (c .digits) (c .cover)
 admitted-only s WrongCount c = wrong-count s c
 admitted-only s OutOfRange c = first-row OutOfRange refl c
 admitted-only s NotAbove c = first-row NotAbove refl c
@@ -76,7 +89,9 @@ admitted-only s NotBelow c = first-row NotBelow refl c
 admitted-only s NotLowest c = first-row NotLowest refl c
 admitted-only s Uncovered c =
     let says = digits-cover s (c .some-digits) (c .digits) in
-    all-digits s (says .gap .1 (c .z, c .point, c .in-none)) (c .some-digits) (c .few-digits) (c .digits)
+    all-digits s (ap (λ (t : Bool). behindRows t (allExpand? s)) (sym (says .gap .1 (c .z, c .point, c .in-none)))) (c .some-digits) (c .few-digits) (c .digits)
+admitted-only s NotExpanding c =
+    all-covered s (digits-expand s (c .digits) .one-fails .1 (c .row, c .below, c .fails)) (c .some-digits) (c .few-digits) (c .digits) (c .cover)
 
 -- ---- and some sentence holds
 
@@ -89,10 +104,17 @@ refused-first NotAbove e f = f
 refused-first NotBelow e f = f
 refused-first NotLowest e f = f
 refused-first Uncovered e f = absurd (f .says)
+refused-first NotExpanding e f = absurd (f .says)
 
 module _ (s : System) (h : 1 ≤ s .count) (k : s .count ≤ 16) where
+  by-expanding : (t : Bool) → allExpand? s ≡ t → Digits s → Full s → (v : Admission) × SystemCase s v
+  by-expanding true e d full = (Admitted, record { some-digits = h; few-digits = k; digits = d; cover = full; expand = digits-expand s d .all .0 e })
+  by-expanding false e d full =
+      let o = digits-expand s d .one-fails .0 e in
+      (NotExpanding, record { some-digits = h; few-digits = k; digits = d; cover = full; row = o .0; below = o .1; fails = o .2 })
+
   by-cover : (t : Bool) → covered? s ≡ t → Digits s → (v : Admission) × SystemCase s v
-  by-cover true e d = (Admitted, record { some-digits = h; few-digits = k; digits = d; cover = digits-cover s h d .full .0 e })
+  by-cover true e d = by-expanding (allExpand? s) refl d (digits-cover s h d .full .0 e)
   by-cover false e d =
       let u = digits-cover s h d .gap .0 e in
       (Uncovered, record { some-digits = h; few-digits = k; digits = d; z = u .0; point = u .1; in-none = u .2 })

@@ -1,13 +1,15 @@
 -- The built-in systems R, D and B are admitted, by one law over tables of rows: where the admission of every table computes to "admitted", every table is an
 -- admissible system in document 01's words (`admitted-exactly`). The law is applied once, to the list of the three, and the test in it is run by the checker.
 -- Then the single systems that document 01 and its rules speak of, each by computation, in one record.
-use Rattle.whole.proofs.Laws.{_≡_, refl, Bool, true, not, _&&_, List, [], _∷_, _++_, not-true, take, ℤ, pos, gcdBy, gcd, gcd4, first, both-true, within?}
-use Rattle.plane.proofs.Laws.{determinantOf}
+use Rattle.whole.proofs.Laws.{_≡_, refl, Bool, true, not, _&&_, List, [], _∷_, _++_, not-true, take, ℤ, gcdBy, gcd, gcd4, first, both-true, within?}
+use Rattle.plane.proofs.Laws.{apply, determinantOf}
 use Rattle.inclusion.proofs.Laws.{closed?, same?}
-use Rattle.digits.proofs.Laws.{transformationBy, intervalBy, minus, row, rowsR, rowsD, rowsB, stored, systemOf}
-use Rattle.admission.specs.Types.{Admission, Admitted, WrongCount, Uncovered}
+use Rattle.expanding.proofs.Laws.{formOf, expands?}
+use Rattle.digits.proofs.Laws.{transformationBy, intervalBy, rowsR, rowsD, rowsB, stored, systemOf}
+use Rattle.admission.specs.Types.{Admission, Admitted, WrongCount, Uncovered, NotExpanding}
 use Rattle.admission.specs.Admission.{refusalNumber, refused?, rowVerdict, rowsVerdict, admissionOf}
 use Rattle.admission.specs.Admitted.{Admissible}
+use Rattle.admission.specs.Named.{identities, plainBinary}
 use Rattle.admission.proofs.Numbers.{not-refused}
 use Rattle.admission.proofs.AdmittedSays.{admitted-exactly}
 
@@ -41,7 +43,7 @@ passed-admissible (rs ∷ tables) e =
     (table-admissible rs (p .0), passed-admissible tables (p .1))
 
 pub built-in-admitted : Each (rowsR ∷ rowsD ∷ rowsB ∷ [])
-unfolding admissionOf rowsVerdict rowVerdict within? determinantOf gcd gcd4 gcdBy transformationBy intervalBy first closed? same? stored
+unfolding admissionOf rowsVerdict rowVerdict within? determinantOf gcd gcd4 gcdBy transformationBy intervalBy first closed? same? apply formOf expands? stored
 built-in-admitted = passed-admissible (rowsR ∷ rowsD ∷ rowsB ∷ []) refl
 
 pub r-admitted : AdmissibleTable rowsR
@@ -55,17 +57,14 @@ b-admitted = built-in-admitted .1 .1 .0
 
 -- ---- single systems
 
--- "Two digits, both F = 1 0 0 1, with intervals (0, infinity) and (infinity, 0): admitted."
-abbrev pub identities : List (List ℤ)
-identities =
-    row (pos 1) (pos 0) (pos 0) (pos 1) (pos 0) (pos 1) (pos 1) (pos 0) ∷
-    row (pos 1) (pos 0) (pos 0) (pos 1) (pos 1) (pos 0) (pos 0) (minus 1) ∷ []
-
 pub record Judged : Type 0 where
   -- "P11 R without row 3: 10."
   pub p11 : admissionOfTable (take 3 rowsR) ≡ Uncovered
   pub p11-number : refusalNumber (admissionOfTable (take 3 rowsR)) ≡ 10
-  pub two-identities : admissionOfTable identities ≡ Admitted
+  -- "Document 01's last run becomes a refusal", and the plain binary system "is now refused"
+  pub two-identities : admissionOfTable identities ≡ NotExpanding
+  pub plain-binary : admissionOfTable plainBinary ≡ NotExpanding
+  pub expand-number : refusalNumber (admissionOfTable identities) ≡ 18
   -- equal digits twice; 16 digits, with and without equal ones; 17
   pub twice : admissionOfTable (rowsR ++ rowsR) ≡ Admitted
   pub sixteen : admissionOfTable (rowsB ++ rowsR ++ rowsD) ≡ Admitted
@@ -76,11 +75,13 @@ pub record Judged : Type 0 where
   pub one-digit : admissionOfTable (take 1 rowsR) ≡ Uncovered
 
 pub judged : Judged
-unfolding admissionOf rowsVerdict rowVerdict within? determinantOf gcd gcd4 gcdBy transformationBy intervalBy first closed? same? stored
+unfolding admissionOf rowsVerdict rowVerdict within? determinantOf gcd gcd4 gcdBy transformationBy intervalBy first closed? same? apply formOf expands? stored
 judged = record {
   p11 = refl;
   p11-number = refl;
   two-identities = refl;
+  plain-binary = refl;
+  expand-number = refl;
   twice = refl;
   sixteen = refl;
   sixteen-twice = refl;

@@ -7,9 +7,9 @@ pub use Rattle.admission.proofs.Numbers.{number-0, not-refused, admissi
 -- what is kept for digits that a system hasn't got
 pub use Rattle.admission.proofs.SameDigits.{same-judgement, same-admission}
 -- R, D and B, and single systems
-pub use Rattle.admission.proofs.BuiltIn.{admissionOfTable, AdmissibleTable, passed?, Each, passed-admissible, built-in-admitted, r-admitted, d-admitted, b-admitted, identities, Judged, judged}
+pub use Rattle.admission.proofs.BuiltIn.{admissionOfTable, AdmissibleTable, passed?, Each, passed-admissible, built-in-admitted, r-admitted, d-admitted, b-admitted, Judged, judged}
 -- the definitions
 pub use Rattle.admission.specs.Admission.{SystemNumber, refusalNumber}
 unfoldable pub use Rattle.admission.specs.Admission.{admissionOf, rowVerdict, rowsVerdict}
-pub use Rattle.admission.specs.Admitted.{Admissible, Digits, SystemCase}
+pub use Rattle.admission.specs.Admitted.{Admissible, Digits, Full, SystemCase}
 pub use Rattle.admission.specs.Types.{Admitted}

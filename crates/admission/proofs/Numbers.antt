@@ -1,6 +1,6 @@
--- Document 01's numbers of refusal: which there are, and that only "admitted" has 0.
+-- The numbers of refusal: which there are, and that only "admitted" has 0.
 use Rattle.whole.proofs.Laws.{_≡_, refl, false, _⊎_, inl, inr, arith, not-false, eqb-true, eqb}
-use Rattle.admission.specs.Types.{Admission, Admitted, WrongCount, OutOfRange, NotAbove, NotBelow, NotLowest, Uncovered}
+use Rattle.admission.specs.Types.{Admission, Admitted, WrongCount, OutOfRange, NotAbove, NotBelow, NotLowest, Uncovered, NotExpanding}
 use Rattle.admission.specs.Admission.{refusalNumber, refused?, SystemNumber}
 
 pub number-0 : (v : Admission) → refusalNumber v ≡ 0 → v ≡ Admitted
@@ -11,6 +11,7 @@ number-0 NotAbove e = absurd (omega arith)
 number-0 NotBelow e = absurd (omega arith)
 number-0 NotLowest e = absurd (omega arith)
 number-0 Uncovered e = absurd (omega arith)
+number-0 NotExpanding e = absurd (omega arith)
 
 pub not-refused : (v : Admission) → refused? v ≡ false → v ≡ Admitted
 not-refused v e = number-0 v (eqb-true (refusalNumber v) 0 (not-false (eqb (refusalNumber v) 0) e))
@@ -18,8 +19,9 @@ not-refused v e = number-0 v (eqb-true (refusalNumber v) 0 (not-false (eqb (refu
 pub admission-number : (v : Admission) → (refusalNumber v ≡ 0) ⊎ SystemNumber (refusalNumber v)
 admission-number Admitted = inl refl
 admission-number WrongCount = inr (inl refl)
-admission-number OutOfRange = inr (inr (omega arith, omega arith))
-admission-number NotAbove = inr (inr (omega arith, omega arith))
-admission-number NotBelow = inr (inr (omega arith, omega arith))
-admission-number NotLowest = inr (inr (omega arith, omega arith))
-admission-number Uncovered = inr (inr (omega arith, omega arith))
+admission-number OutOfRange = inr (inr (inl (omega arith, omega arith)))
+admission-number NotAbove = inr (inr (inl (omega arith, omega arith)))
+admission-number NotBelow = inr (inr (inl (omega arith, omega arith)))
+admission-number NotLowest = inr (inr (inl (omega arith, omega arith)))
+admission-number Uncovered = inr (inr (inl (omega arith, omega arith)))
+admission-number NotExpanding = inr (inr (inr refl))

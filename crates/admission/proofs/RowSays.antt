@@ -8,7 +8,7 @@
 use Rattle.whole.proofs.Laws.{_≡_, refl, sym, subst, Bool, true, false, _&&_, false≢true, List, _⊎_, inl, inr, _↔_, ℕ, _∣_, eqb-true, eq-eqb, eqb, ℤ, pos, natAbs, at, gcd, gcd4, gcd-divides-left, gcd-divides-right, gcd-greatest, gcd4-divides, gcd4-greatest, <-or-≥, true-lt, false-lt, both-true, true-both, false-by, within?, lowest?, within-says, says-within}
 use Rattle.plane.proofs.Laws.{determinantOf}
 use native.Mathlib.Nat.{eq-one-of-dvd-one}
-use Rattle.admission.specs.Types.{Admission, Admitted, WrongCount, OutOfRange, NotAbove, NotBelow, NotLowest, Uncovered}
+use Rattle.admission.specs.Types.{Admission, Admitted, WrongCount, OutOfRange, NotAbove, NotBelow, NotLowest, Uncovered, NotExpanding}
 use Rattle.admission.specs.Admission.{lowestEnds?, rowVerdict}
 use Rattle.admission.specs.Admitted.{InRange, Lowest, RowCase}
 
@@ -62,6 +62,7 @@ row-only f w NotAbove c = rw (says-range (c .0), false-lt (c .1))
 row-only f w NotBelow c = rw (says-range (c .0), true-lt (c .1), false-lt (c .2))
 row-only f w NotLowest c = rw (says-range (c .0), true-lt (c .1), true-lt (c .2 .below), false-by (lowest? f && lowestEnds? w) (λ e. c .3 (lowest-says f w e)))
 row-only f w Uncovered c = absurd c
+row-only f w NotExpanding c = absurd c
 
 -- ---- and some sentence holds: what a test asks is so, or is not
 

@@ -1,12 +1,13 @@
 -- Two systems with the same digits get the same admission (`same-judgement`), wherever their numbers stand: "what is kept for the digits a system hasn't got .. no answer
 -- depends on it", and a system in rows is judged as its columns are (`same-admission`). Where there are more digits than a system can have, these need not even be the same.
 --
--- Each row is judged alike, the cover test meets the same intervals (`same-covered`), and the searches agree on every number that they pass (`first-same`).
-use Rattle.whole.proofs.Laws.{_≡_, refl, sym, _∙_, ap, ap₂, Bool, cond, _&&_, List, inl, inr, Option, none, some, ℕ, _-_, _≤_, _<_, eq-zero-or-pos, arith, leb, ℤ, first, first-found, first-same}
+-- Each row is judged alike, the tests behind the rows meet the same ones (`same-covered`, `same-expand`), and the searches agree on every number that they pass (`first-same`).
+use Rattle.whole.proofs.Laws.{_≡_, refl, sym, _∙_, ap, ap₂, cond, _&&_, List, inl, inr, Option, none, some, ℕ, _-_, _≤_, _<_, eq-zero-or-pos, arith, leb, ℤ, first, first-found, first-same}
 use Rattle.digits.proofs.Laws.{System, SameDigits, asWritten, lent, columnsOf, same-in-columns}
 use Rattle.cover.proofs.Laws.{same-covered}
-use Rattle.admission.specs.Types.{Admission, Admitted, WrongCount, Uncovered}
-use Rattle.admission.specs.Admission.{rowVerdict, refused?, verdictOfRow, firstVerdict, rowsVerdict, admissionOf}
+use Rattle.expanding.proofs.Laws.{same-expand}
+use Rattle.admission.specs.Types.{Admission, WrongCount}
+use Rattle.admission.specs.Admission.{rowVerdict, refused?, verdictOfRow, behindRows, firstVerdict, rowsVerdict, admissionOf}
 use Rattle.admission.proofs.AdmittedSays.{admitted-only}
 
 -- a system with another count
@@ -22,7 +23,7 @@ module _ (s other : System) (same : SameDigits s (counted (s .count) other)) (fe
 
   -- what follows from the row that is found, or from none
   same-after : (o : Option ℕ) → first (λ a. refused? (verdictOfRow s a)) (s .count) 0 ≡ o → firstVerdict s o ≡ firstVerdict t o
-  same-after none e = ap (λ (v : Bool). cond v Admitted Uncovered) (same-covered s other (same .intervals few))
+  same-after none e = ap₂ behindRows (same-covered s other (same .intervals few)) (same-expand s other (same .transformations few) (same .intervals few))
   same-after (some a) e = same-verdict a (omega (arith, first-found (λ a. refused? (verdictOfRow s a)) (s .count) 0 a e .below))
 
   same-judged : admissionOf s ≡ admissionOf t

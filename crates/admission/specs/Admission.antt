@@ -1,5 +1,6 @@
--- The judgement of a digit system, as a computation: "System: row by row 6, 7, 8, 9; then 10", behind 3 for the count. The theorem `admitted-exactly`
--- (proofs/AdmittedSays.antt) proves that each answer is given exactly when document 01's sentence holds, as specs/Admitted.antt states it.
+-- The judgement of a digit system, as a computation: "System: row by row 6, 7, 8, 9; then 10", behind 3 for the count, and "18, a row not expanding,
+-- directly after 10" (document 02). The theorem `admitted-exactly` (proofs/AdmittedSays.antt) proves that each answer is given exactly when its sentence
+-- holds, as specs/Admitted.antt states it.
 use mathlib.Core.Path.{_≡_}
 use mathlib.Core.Bool.{Bool, not, cond, _&&_}
 use mathlib.Core.List.{List}
@@ -15,9 +16,10 @@ use Rattle.whole.specs.First.{first}
 use Rattle.plane.specs.Plane.{determinantOf}
 use Rattle.digits.specs.System.{System, transformation, interval}
 use Rattle.cover.specs.Cover.{covered?}
-use Rattle.admission.specs.Types.{Admission, Admitted, WrongCount, OutOfRange, NotAbove, NotBelow, NotLowest, Uncovered}
+use Rattle.expanding.specs.Expanding.{allExpand?}
+use Rattle.admission.specs.Types.{Admission, Admitted, WrongCount, OutOfRange, NotAbove, NotBelow, NotLowest, Uncovered, NotExpanding}
 
--- Document 01's number for each answer; 0 where nothing is refused.
+-- The documents' number for each answer; 0 where nothing is refused.
 abbrev pub refusalNumber : Admission → ℕ
 refusalNumber Admitted = 0
 refusalNumber WrongCount = 3
@@ -26,10 +28,11 @@ refusalNumber NotAbove = 7
 refusalNumber NotBelow = 8
 refusalNumber NotLowest = 9
 refusalNumber Uncovered = 10
+refusalNumber NotExpanding = 18
 
--- "3, 6 to 10": the numbers that refuse a system
+-- "3, 6 to 10", and 18: the numbers that refuse a system
 abbrev pub SystemNumber : ℕ → Type 0
-SystemNumber n = (n ≡ 3) ⊎ ((6 ≤ n) × (n ≤ 10))
+SystemNumber n = (n ≡ 3) ⊎ ((6 ≤ n) × (n ≤ 10)) ⊎ (n ≡ 18)
 
 abbrev pub refused? : Admission → Bool
 refused? v = not (eqb (refusalNumber v) 0)
@@ -52,9 +55,13 @@ rowVerdict f w =
 abbrev pub verdictOfRow : System → ℕ → Admission
 verdictOfRow s a = rowVerdict (transformation s a) (interval s a)
 
--- "then 10": the first row that is refused decides; where none is, the cover does (crates/cover)
+-- "then 10", and "18 .. directly after 10": the first row that is refused decides; where none is, the cover does (crates/cover), and where no point is left
+-- out, whether every row expands (crates/expanding)
+abbrev pub behindRows : Bool → Bool → Admission
+behindRows covered expanding = cond covered (cond expanding Admitted NotExpanding) Uncovered
+
 abbrev pub firstVerdict : System → Option ℕ → Admission
-firstVerdict s none = cond (covered? s) Admitted Uncovered
+firstVerdict s none = behindRows (covered? s) (allExpand? s)
 firstVerdict s (some a) = verdictOfRow s a
 
 unfoldable pub rowsVerdict : System → Admission

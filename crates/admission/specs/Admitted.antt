@@ -1,6 +1,6 @@
 -- Document 01's sentences on an admitted system, as they stand, and not how they are tested: "Admitted if every number lies in −100..100, det F > 0, det
 -- W < 0, the four numbers of F have greatest common divisor 1, so have the two numbers of each end, and every point lies in the closed interval of some
--- digit."
+-- digit." And document 02's, on every one of them: "W_a must be included in the set where the inverse of F_a expands".
 use mathlib.Core.Path.{_≡_}
 use mathlib.Core.List.{List}
 use mathlib.Core.Logic.{_⊎_}
@@ -12,7 +12,8 @@ use Rattle.whole.specs.Divisor.{Divides4}
 use Rattle.plane.specs.Plane.{Pair, Point, determinantOf, Interval}
 use Rattle.digits.specs.System.{System, transformation, interval}
 use Rattle.cover.specs.Cover.{Covers}
-use Rattle.admission.specs.Types.{Admission, Admitted, WrongCount, OutOfRange, NotAbove, NotBelow, NotLowest, Uncovered}
+use Rattle.expanding.specs.Expanding.{AllExpand, FailsToExpand}
+use Rattle.admission.specs.Types.{Admission, Admitted, WrongCount, OutOfRange, NotAbove, NotBelow, NotLowest, Uncovered, NotExpanding}
 
 -- "every number lies in −100..100"
 pub record InRange (f w : List ℤ) : Type 0 where
@@ -42,17 +43,22 @@ DigitsBelow s n = (a : ℕ) → a < n → DigitAt s a
 abbrev pub Digits : System → Type 0
 Digits s = DigitsBelow s (s .count)
 
+-- "every point lies in the closed interval of some digit"
+abbrev pub Full : System → Type 0
+Full s = (z : Pair) → Point z → Covers s z
+
 pub record Admissible (s : System) : Type 0 where
   pub some-digits : 1 ≤ s .count
   pub few-digits : s .count ≤ 16
   pub digits : Digits s
-  -- "and every point lies in the closed interval of some digit"
-  pub cover : (z : Pair) → Point z → Covers s z
+  pub cover : Full s
+  -- "W_a must be included in the set where the inverse of F_a expands"
+  pub expand : AllExpand s
 
 -- ---- when each answer is given
 
 -- Of one row, "6, 7, 8, 9", the first that applies: "6: a number is out of its range. 7: det F ≤ 0. 8: det W ≥ 0. 9: F or an end not in lowest terms."
--- 3 and 10 are no answers about a row.
+-- 3, 10 and 18 are no answers about a row.
 abbrev pub RowCase : List ℤ → List ℤ → Admission → Type 0
 RowCase f w Admitted = Digit f w
 RowCase f w WrongCount = ⊥
@@ -61,6 +67,7 @@ RowCase f w NotAbove = InRange f w × (determinantOf f ≤ℤ pos 0)
 RowCase f w NotBelow = InRange f w × (pos 0 <ℤ determinantOf f) × (pos 0 ≤ℤ determinantOf w)
 RowCase f w NotLowest = InRange f w × (pos 0 <ℤ determinantOf f) × Interval w × (Lowest f w → ⊥)
 RowCase f w Uncovered = ⊥
+RowCase f w NotExpanding = ⊥
 
 -- "row by row": the count is right, v is the answer about some row, and every row before it is a digit
 pub record FirstRow (s : System) (v : Admission) : Type 0 where
@@ -80,7 +87,17 @@ pub record Gap (s : System) : Type 0 where
   pub point : Point z
   pub in-none : Covers s z → ⊥
 
--- Of a whole system: "3: a system has 0 or more than 16 digits", "row by row 6, 7, 8, 9; then 10", and admitted.
+-- "18, a row not expanding, directly after 10": the count is right, every row is a digit, no point is left out, and here is a row with a point that fails
+pub record RowNotExpanding (s : System) : Type 0 where
+  pub some-digits : 1 ≤ s .count
+  pub few-digits : s .count ≤ 16
+  pub digits : Digits s
+  pub cover : Full s
+  pub row : ℕ
+  pub below : row < s .count
+  pub fails : FailsToExpand (transformation s row) (interval s row)
+
+-- Of a whole system: "3: a system has 0 or more than 16 digits", "row by row 6, 7, 8, 9; then 10", then 18, and admitted.
 abbrev pub SystemCase : System → Admission → Type 0
 SystemCase s Admitted = Admissible s
 SystemCase s WrongCount = (s .count ≡ 0) ⊎ (16 < s .count)
@@ -89,3 +106,4 @@ SystemCase s NotAbove = FirstRow s NotAbove
 SystemCase s NotBelow = FirstRow s NotBelow
 SystemCase s NotLowest = FirstRow s NotLowest
 SystemCase s Uncovered = Gap s
+SystemCase s NotExpanding = RowNotExpanding s

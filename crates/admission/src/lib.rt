@@ -1,4 +1,4 @@
-// Which digit systems are admitted: document 01's section "A digit system" and its refusals 3 and 6 to 10.
+// Which digit systems are admitted: document 01's section "A digit system" and its refusals 3 and 6 to 10, and document 02's 18.
 // Public: `Admission`, `refusal_number`, `admit`. `admission_of` is for the crates above, which lend a system's numbers as a slice.
 ghost use mathlib.Core.Path.{_≡_};
 ghost use Prim.Native.Nat.{_≤_};
@@ -17,6 +17,7 @@ pub enum Admission {
     NotBelow,
     NotLowest,
     Uncovered,
+    NotExpanding,
 }
 
 // Document 01's number for a refusal, and 0 for none.
@@ -31,10 +32,11 @@ pub fn refusal_number(v: Admission) -> u8
         Admission::NotBelow => 8,
         Admission::NotLowest => 9,
         Admission::Uncovered => 10,
+        Admission::NotExpanding => 18,
     }
 }
 
-// "System: row by row 6, 7, 8, 9; then 10."
+// "System: row by row 6, 7, 8, 9; then 10"; "18, a row not expanding, directly after 10".
 fn rows_verdict(n: usize, columns: &[i16]) -> Admission
     requires { ⌜ (Columns (now columns)) × (n ≤ 16) ⌝ }
     ensures { λ r. ⌜ r ≡ rowsVerdict (lent n (now (columns .entry))) ⌝ }
@@ -50,10 +52,13 @@ fn rows_verdict(n: usize, columns: &[i16]) -> Admission
         }
         a += 1;
     }
-    if cover::covered(n, columns) {
-        return Admission::Admitted;
+    if !cover::covered(n, columns) {
+        return Admission::Uncovered;
     }
-    Admission::Uncovered
+    if !expanding::all_expand(n, columns) {
+        return Admission::NotExpanding;
+    }
+    Admission::Admitted
 }
 
 // The judgement of a system whose numbers are lent: of as many digits as its count says, unless that is refused.

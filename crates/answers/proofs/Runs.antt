@@ -30,9 +30,10 @@ state-in-range {count = count} s w h = record { five = refl; entries = record { 
 
 -- ---- an end and a refusal have no number in common
 
-pub refusal-bounds : {n : ℕ} → RefusalNumber n → (3 ≤ n) × (n ≤ 12)
+pub refusal-bounds : {n : ℕ} → RefusalNumber n → (3 ≤ n) × (n ≤ 18)
 refusal-bounds (inl (inl e)) = (omega (arith, e), omega (arith, e))
-refusal-bounds (inl (inr h)) = (omega (arith, h .0), omega (arith, h .1))
+refusal-bounds (inl (inr (inl h))) = (omega (arith, h .0), omega (arith, h .1))
+refusal-bounds (inl (inr (inr e))) = (omega (arith, e), omega (arith, e))
 refusal-bounds (inr e) = (omega (arith, e), omega (arith, e))
 
 pub end-few : {n : ℕ} → EndNumber n → n ≤ 22

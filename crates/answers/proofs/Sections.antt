@@ -66,7 +66,8 @@ refuses-number =
 
 pub system-above : {n : ℕ} → SystemNumber n → 1 ≤ n
 system-above (inl e) = omega (arith, e)
-system-above (inr h) = omega (arith, h .0)
+system-above (inr (inl h)) = omega (arith, h .0)
+system-above (inr (inr e)) = omega (arith, e)
 
 pub matrix-above : {n : ℕ} → MatrixNumber n → 1 ≤ n
 matrix-above (inl e) = omega (arith, e)

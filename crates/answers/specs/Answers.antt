@@ -15,7 +15,7 @@ use Rattle.jobs.specs.Types.{Reads, Job, Reading}
 use Rattle.jobs.specs.Reading.{verdictNumber, verdictSection, noJob}
 use Rattle.answers.specs.Numbers.{MatrixNumber, SectionNumber, ZeroOr}
 
--- admitting a system: 0, or "3, 6 to 10"
+-- admitting a system: 0, or "3, 6 to 10", or 18
 abbrev pub AdmissionInRange : Admission → Type 0
 AdmissionInRange v = ZeroOr SystemNumber (refusalNumber v)
 

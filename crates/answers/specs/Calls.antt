@@ -20,7 +20,7 @@ use Rattle.read_call.specs.ReadCall.{AfterRead, afterRead}
 use Rattle.answers.specs.Numbers.{MatrixNumber, SectionNumber, ZeroOr, OrLength}
 use Rattle.answers.specs.Answers.{JobInRange}
 
--- sled_admit: 0, 3, 6 to 10, or 40
+-- sled_admit: 0, 3, 6 to 10, 18, or 40
 abbrev pub AdmitInRange : ℕ → Type 0
 AdmitInRange = OrLength (ZeroOr SystemNumber)
 
@@ -65,7 +65,7 @@ pub record OpenInRange (old : List ℤ) (w : Wrote) : Type 0 where
   pub state : w .number ≡ 0 → StateInRange 1000 0 (w .numbers)
   pub untouched : 1 ≤ w .number → w .numbers ≡ old
 
--- ---- sled_run: 0, 20, 21, 22, or 3, 6 to 10, 12, or 40
+-- ---- sled_run: 0, 20, 21, 22, or 3, 6 to 10, 12, 18, or 40
 
 -- two counts: "bytes taken, digits written"
 pub record CountsInRange (input output counts : List ℕ) : Type 0 where

@@ -1,5 +1,5 @@
--- Which numbers are given for what, in document 01's words. (Of a system, "3, 6 to 10": `SystemNumber`, crates/admission/specs. Of a run's systems and state,
--- these and 12: `RefusalNumber`, crates/judging/specs. The ends: `EndNumber`, crates/states/specs.)
+-- Which numbers are given for what, in document 01's words. (Of a system, "3, 6 to 10", and 18: `SystemNumber`, crates/admission/specs. Of a run's
+-- systems and state, these and 12: `RefusalNumber`, crates/judging/specs. The ends: `EndNumber`, crates/states/specs.)
 use mathlib.Core.Path.{_≡_}
 use mathlib.Core.Logic.{_⊎_}
 use Prim.Native.Nat.{ℕ, zero, suc}

@@ -15,7 +15,8 @@ use Rattle.unary.specs.Types.{Answer}
 use Rattle.unary.specs.Run.{Ran, leaves}
 use Rattle.exactly_when.specs.Lines.{Smallest, NoneFits, Leaves, givenX, absorbedX}
 
--- ---- refused: "A run judges its input system (3, 6 to 10), its output system, then the state (12), before any step"
+-- ---- refused: "A run judges its input system (3, 6 to 10), its output system, then the state (12), before any step", and 18
+-- directly after 10
 
 pub data RefusedBy (y : Setting) (s : State) : ℕ → Type 0 where
   input-system : (v : Admission) → SystemCase (y .input) v → (v ≡ Admitted → ⊥) → RefusedBy y s (refusalNumber v)

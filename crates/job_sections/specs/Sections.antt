@@ -48,7 +48,7 @@ pub record ByNumber {E : Type 0} (numberOf : E → ℕ) (Case : E → Type 0) (n
   pub numbered : numberOf answer ≡ number
   pub holds : Case answer
 
--- ---- a system: "3: a system has 0 or more than 16 digits"; then 6 to 10
+-- ---- a system: "3: a system has 0 or more than 16 digits"; then 6 to 10, and 18
 
 -- rows of signed 16-bit numbers, and 0 for the digits that the system hasn't got
 pub record SystemSayable (s : StoredSystem) : Type 0 where

@@ -1,4 +1,5 @@
--- "A run judges its input system (3, 6 to 10), its output system, then the state (12), before any step."
+-- "A run judges its input system (3, 6 to 10), its output system, then the state (12), before any step", and each system by 18, "directly after 10, also
+-- in runs" (document 02).
 use mathlib.Core.Path.{_≡_}
 use mathlib.Core.Bool.{Bool, true, cond, _&&_}
 use mathlib.Core.Logic.{_⊎_}
@@ -31,7 +32,7 @@ refusalOf y s =
     (unlessRefused (refusalNumber (admissionOf (y .output))) (λ n. n)
     (cond (state? (y .input .count) s) 0 12))
 
--- "3, 6 to 10", and 12
+-- "3, 6 to 10", 18, and 12
 abbrev pub RefusalNumber : ℕ → Type 0
 RefusalNumber n = SystemNumber n ⊎ (n ≡ 12)
 

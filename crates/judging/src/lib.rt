@@ -34,7 +34,7 @@ fn state_kept(n: usize, s: State) -> bool
     held_below(n, h)
 }
 
-// "A run judges its input system (3, 6 to 10), its output system, then the state (12), before any step": the number of the refusal, or 0.
+// "A run judges its input system (3, 6 to 10), its output system, then the state (12), before any step", and each system by 18, "directly after 10, also in runs": the number of the refusal, or 0.
 pub fn refusal(
     input_count: usize,
     input_columns: &[i16],

@@ -7,6 +7,7 @@ use Rattle.whole.proofs.Laws.{_≡_, refl, ap, List, [], _∷_, ℕ, _*_, arith
 use Rattle.plane.proofs.Laws.{Point, SamePoint, determinantOf, pseudoinverseOf, apply, multiplyOf, Closed, imageOf, cancelOf, scaleOf, above-not-0}
 use Rattle.inclusion.proofs.Laws.{closed?, same?, included?}
 use Rattle.digits.proofs.Laws.{transformationBy, intervalBy, rowsR, stored, systemOf}
+use Rattle.expanding.proofs.Laws.{formOf, expands?}
 use Rattle.admission.proofs.Laws.{rowVerdict, rowsVerdict, admissionOf, r-admitted}
 use Rattle.runs.proofs.Laws.{follow, runBy, run, judgedRun}
 use Rattle.states.proofs.Laws.{Nothing, Digit, State}
@@ -35,17 +36,17 @@ new = newly-opened r-admitted r-admitted refl
 
 pub whole-word : SessionR (0 ∷ 0 ∷ 1 ∷ []) (0 ∷ 1 ∷ 1 ∷ []) (record { matrix = four 2 1 1 2; held = Nothing })
 unfolding stored admissionOf rowsVerdict rowVerdict within? gcd gcd4 gcdBy transformationBy intervalBy first unlessRefused closed? same? included? determinantOf
-    pseudoinverseOf apply multiplyOf imageOf cancelOf state? fittingOf follow runBy run refusalOf judgedRun courseOf
+    pseudoinverseOf apply multiplyOf imageOf cancelOf formOf expands? state? fittingOf follow runBy run refusalOf judgedRun courseOf
 whole-word = called-again new (0 ∷ 0 ∷ 1 ∷ []) (replicate 8 0)
 
 pub half-way : SessionR (0 ∷ 0 ∷ 1 ∷ []) (0 ∷ 1 ∷ []) (record { matrix = four 3 0 1 1; held = Digit 1 })
 unfolding stored admissionOf rowsVerdict rowVerdict within? gcd gcd4 gcdBy transformationBy intervalBy first unlessRefused closed? same? included? determinantOf
-    pseudoinverseOf apply multiplyOf imageOf cancelOf state? fittingOf follow runBy run refusalOf judgedRun courseOf
+    pseudoinverseOf apply multiplyOf imageOf cancelOf formOf expands? state? fittingOf follow runBy run refusalOf judgedRun courseOf
 half-way = called-again new (0 ∷ 0 ∷ 1 ∷ []) (replicate 2 0)
 
 pub two-calls : SessionR (0 ∷ 0 ∷ 1 ∷ []) (0 ∷ 1 ∷ 1 ∷ []) (record { matrix = four 2 1 1 2; held = Nothing })
 unfolding stored admissionOf rowsVerdict rowVerdict within? gcd gcd4 gcdBy transformationBy intervalBy first unlessRefused closed? same? included? determinantOf
-    pseudoinverseOf apply multiplyOf imageOf cancelOf state? fittingOf follow runBy run refusalOf judgedRun courseOf
+    pseudoinverseOf apply multiplyOf imageOf cancelOf formOf expands? state? fittingOf follow runBy run refusalOf judgedRun courseOf
 two-calls = called-again half-way [] (replicate 6 0)
 
 -- ---- the product, in plain numbers

@@ -6,7 +6,7 @@ ghost use Rattle.whole.specs.Range.{Near, Within};
 ghost use Rattle.plane.specs.Plane.{multiplyOf, imageOf};
 
 // a·x + b·y: an entry of a product.
-fn dot(a: i64, b: i64, x: i64, y: i64) -> i64
+pub fn dot(a: i64, b: i64, x: i64, y: i64) -> i64
     requires { ⌜ (Near 1000000000 a) × (Near 1000000000 b) × (Near 1000000000 x) × (Near 1000000000 y) ⌝ }
     ensures { λ r. ⌜ r ≡ a *ℤ x +ℤ b *ℤ y ⌝ }
 {

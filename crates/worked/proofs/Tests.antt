@@ -1,8 +1,9 @@
--- The test of a claim, which computes, and the law that a claim which passes its test holds: one law for each of the seven kinds.
-use Rattle.whole.proofs.Laws.{_≡_, refl, Bool, true, not, false≢true, List, [], _∷_, ℕ, eqb-true, not-true, eqb, length, take, replicate, ℤ, pos, ltZ, lt-true}
-use Rattle.plane.proofs.Laws.{det, left, right, Interval}
+-- The test of a claim, which computes, and the law that a claim which passes its test holds: one law for each of the eight kinds.
+use Rattle.whole.proofs.Laws.{_≡_, refl, Bool, true, not, false≢true, List, [], _∷_, ℕ, eqb-true, not-true, eqb, length, take, replicate, ℤ, pos, _*ℤ_, ltZ, lt-true}
+use Rattle.plane.proofs.Laws.{Pair, det, left, right, Interval}
 use Rattle.inclusion.proofs.Laws.{closed?, included?, included-says, not-included-says, closed-says}
 use Rattle.digits.proofs.Laws.{stored, systemOf}
+use Rattle.expanding.proofs.Laws.{stretched, sent}
 use Rattle.admission.proofs.Laws.{refusalNumber, admitted-says}
 use Rattle.states.proofs.Laws.{Nothing, endNumber}
 use Rattle.opening.proofs.Laws.{Opening, Opens, OutOfRange, NotAbove, Start, openingNumber, openOf, opens}
@@ -10,8 +11,8 @@ use Rattle.unary.proofs.Laws.{Ran}
 use Rattle.text.specs.Text.{bytesOf}
 use Rattle.printed.specs.Text.{printed}
 use Prim.Native.String.{String}
-use Rattle.worked.specs.Claims.{Job, Ending, judgedOf, ranOf, divisorsOf, fileOf, IsIncluded, EndsOnly, IsOpened, IsJudged, IsEnded, IsCancelled, IsPrinted}
-use Rattle.worked.specs.Claims.{Claim, included, ends-only, opening, judged, ended, cancelled, prints, Says}
+use Rattle.worked.specs.Claims.{Job, Ending, judgedOf, ranOf, divisorsOf, fileOf, IsIncluded, EndsOnly, IsOpened, IsJudged, IsRated, IsEnded, IsCancelled, IsPrinted}
+use Rattle.worked.specs.Claims.{Claim, included, ends-only, opening, judged, rated, ended, cancelled, prints, Says}
 use Rattle.worked.proofs.Same.{sameNumber?, same-number, sameList?, same-list, sameHeld?, same-held, all?, each}
 
 -- ---- intervals
@@ -72,6 +73,21 @@ opening-holds m number x e =
 judged-holds : (rows : List (List ℤ)) (number : ℕ) → eqb (refusalNumber (judgedOf rows)) number ≡ true → IsJudged rows number
 judged-holds rows number e = record { answer = eqb-true (refusalNumber (judgedOf rows)) number e; reason = admitted-says (systemOf (stored rows)) }
 
+abbrev ratedTests : List ℤ → List ℤ → Pair → ℕ → ℕ → List Bool
+ratedTests f w z over under = ltZ (pos 0) (det (left w) z *ℤ det z (right w)) ∷ sameNumber? (stretched f z) (pos over) ∷ sameNumber? (sent f z) (pos under) ∷ []
+
+rated-holds : (rows : List (List ℤ)) (digit : ℕ) (z : Pair) (over under : ℕ) → let s = systemOf (stored rows) in
+    all? (ratedTests (s .transformation digit) (s .interval digit) z over under) ≡ true → IsRated rows digit z over under
+rated-holds rows digit z over under e =
+    let f = systemOf (stored rows) .transformation digit in
+    let w = systemOf (stored rows) .interval digit in
+    let p = each (ratedTests f w z over under) e in
+    record {
+      inside = record { above = lt-true (pos 0) (det (left w) z *ℤ det z (right w)) (p .0) };
+      over-is = same-number (stretched f z) (pos over) (p .1 .0);
+      under-is = same-number (sent f z) (pos under) (p .1 .1 .0);
+    }
+
 -- ---- a job's run
 
 opened : (v : Opening) → eqb (openingNumber v) 0 ≡ true → v ≡ Opens
@@ -123,6 +139,7 @@ passes? (included i j) = all? (includedTests i j)
 passes? (ends-only i j) = all? (endsTests i j)
 passes? (opening m number x) = all? (openingTests (openOf m) number x)
 passes? (judged rows number) = eqb (refusalNumber (judgedOf rows)) number
+passes? (rated rows digit z over under) = let s = systemOf (stored rows) in all? (ratedTests (s .transformation digit) (s .interval digit) z over under)
 passes? (ended j e) = all? (endedTests (openOf (j .matrix)) (ranOf j) e)
 passes? (cancelled j ds) = sameList? eqb (divisorsOf j) ds
 passes? (prints j bytes lines) = all? (printsTests j bytes lines)
@@ -132,6 +149,7 @@ holds (included i j) t = included-holds i j t
 holds (ends-only i j) t = ends-hold i j t
 holds (opening m number x) t = opening-holds m number x t
 holds (judged rows number) t = judged-holds rows number t
+holds (rated rows digit z over under) t = rated-holds rows digit z over under t
 holds (ended j e) t = ended-holds j e t
 holds (cancelled j ds) t = cancelled-holds j ds t
 holds (prints j bytes lines) t = prints-holds j bytes lines t

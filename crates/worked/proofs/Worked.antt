@@ -4,6 +4,7 @@ use Rattle.whole.proofs.Laws.{_≡_, refl, sym, subst, Bool, true, _&&_, List, 
 use Rattle.plane.proofs.Laws.{apply, determinantOf, pseudoinverseOf, multiplyOf, imageOf, cancelOf}
 use Rattle.inclusion.proofs.Laws.{closed?, same?, included?}
 use Rattle.digits.proofs.Laws.{transformationBy, intervalBy, rowsIn, stored}
+use Rattle.expanding.proofs.Laws.{formOf, expands?}
 use Rattle.admission.proofs.Laws.{rowVerdict, rowsVerdict, admissionOf}
 use Rattle.runs.proofs.Laws.{follow, runBy, run, judgedRun}
 use Rattle.fitting.proofs.Laws.{fittingOf}
@@ -15,7 +16,7 @@ use Rattle.job_sections.specs.Sections.{signed, numbersIn}
 use Rattle.jobs.specs.Reading.{readingOf, readOf}
 use Rattle.text.specs.Number.{digitsBy, decimal, signedText}
 use Rattle.state_line.specs.StateLine.{heldText, stateLine}
-use Rattle.lines.specs.Lines.{countsLine, digitsLine, answerText}
+use Rattle.lines.specs.Lines.{countsLine, digitsLine, answerText, refusedText}
 use Rattle.printed.specs.Text.{printed}
 use mathlib.Core.Logic.{⊎-elim}
 use Rattle.worked.specs.Claims.{Claim, Says, Member}
@@ -34,8 +35,8 @@ passed (d ∷ ds) e c k =
 
 computed : allPass? table ≡ true
 unfolding gcdBy gcd gcd4 apply determinantOf pseudoinverseOf multiplyOf imageOf cancelOf closed? same? included? first within? rowVerdict rowsVerdict
-    admissionOf rowsIn stored state? openOf unlessRefused transformationBy intervalBy fittingOf follow runBy run refusalOf judgedRun courseOf runOf
-    presence numberOf signed numbersIn readingOf readOf digitsBy decimal signedText heldText stateLine countsLine digitsLine answerText printed
+    formOf expands? admissionOf rowsIn stored state? openOf unlessRefused transformationBy intervalBy fittingOf follow runBy run refusalOf judgedRun courseOf runOf
+    presence numberOf signed numbersIn readingOf readOf digitsBy decimal signedText heldText stateLine countsLine digitsLine answerText refusedText printed
 computed = refl
 
 -- Document 01's worked examples, P1 to P12 and its other runs, are true of the definitions.

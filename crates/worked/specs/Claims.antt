@@ -1,15 +1,17 @@
--- What a worked example can claim, and what each claim says. There are seven kinds: an interval is included in another; it is not, though both its ends lie
--- there; a matrix opens, or is refused; a system is admitted, or is refused; a job ends in a stated way; its steps were cancelled by stated divisors; its file
--- has so many bytes and prints a stated text. Where document 01 has a sentence for an answer, the claim says that too.
+-- What a worked example can claim, and what each claim says. There are eight kinds: an interval is included in another; it is not, though both its ends lie
+-- there; a matrix opens, or is refused; a system is admitted, or is refused; a digit has a stated rate at a point inside its interval; a job ends in a stated
+-- way; its steps were cancelled by stated divisors; its file has so many bytes and prints a stated text. Where document 01 has a sentence for an answer, the
+-- claim says that too.
 use mathlib.Core.Path.{_≡_}
 use mathlib.Core.List.{List, [], _∷_}
 use mathlib.Core.Logic.{_⊎_}
 use Prim.Native.Nat.{ℕ, zero, suc}
 use Prim.Native.String.{String}
 use lib.ListN.{length, take, replicate}
-use lib.IntN.{ℤ}
-use Rattle.plane.specs.Plane.{left, right, Interval, Closed}
+use lib.IntN.{ℤ, pos}
+use Rattle.plane.specs.Plane.{Pair, left, right, Interval, Inside, Closed}
 use Rattle.inclusion.specs.Inclusion.{Included}
+use Rattle.expanding.specs.Expanding.{stretched, sent}
 use Rattle.admission.specs.Admission.{refusalNumber, admissionOf}
 use Rattle.admission.specs.Admitted.{SystemCase}
 use Rattle.digits.specs.Orders.{systemOf}
@@ -101,6 +103,12 @@ pub record IsJudged (rows : List (List ℤ)) (number : ℕ) : Type 0 where
   pub answer : refusalNumber (judgedOf rows) ≡ number
   pub reason : SystemCase (systemOf (stored rows)) (judgedOf rows)
 
+-- a digit's rate at a point inside its interval: what det F·(z0² + z1²) is, over the squared length of pseudoinverse(F)·z
+pub record IsRated (rows : List (List ℤ)) (digit : ℕ) (z : Pair) (over under : ℕ) : Type 0 where
+  pub inside : Inside (systemOf (stored rows) .interval digit) z
+  pub over-is : stretched (systemOf (stored rows) .transformation digit) z ≡ pos over
+  pub under-is : sent (systemOf (stored rows) .transformation digit) z ≡ pos under
+
 -- the job's matrix opens, and its run ends so
 pub record IsEnded (j : Job) (e : Ending) : Type 0 where
   pub opens : openOf (j .matrix) .opening ≡ Opens
@@ -127,6 +135,7 @@ pub data Claim : Type 0 where
   ends-only : List ℤ → List ℤ → Claim
   opening : List ℤ → ℕ → List ℤ → Claim
   judged : List (List ℤ) → ℕ → Claim
+  rated : List (List ℤ) → ℕ → Pair → ℕ → ℕ → Claim
   ended : Job → Ending → Claim
   cancelled : Job → List ℕ → Claim
   prints : Job → ℕ → String → Claim
@@ -136,6 +145,7 @@ Says (included i j) = IsIncluded i j
 Says (ends-only i j) = EndsOnly i j
 Says (opening m number x) = IsOpened m number x
 Says (judged rows number) = IsJudged rows number
+Says (rated rows digit z over under) = IsRated rows digit z over under
 Says (ended j e) = IsEnded j e
 Says (cancelled j ds) = IsCancelled j ds
 Says (prints j bytes lines) = IsPrinted j bytes lines

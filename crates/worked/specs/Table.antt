@@ -1,12 +1,14 @@
--- Document 01, "Runs and tests to hold it against": P1 to P12, its two runs of D to R, and the two identity digits. Every number here is document 01's;
--- where it leaves one out (the matrix of P7 and P12, the room of every run but P5) it is that of the job of P4, whose room is the program's.
-use mathlib.Core.List.{List, [], _∷_}
+-- Document 01, "Runs and tests to hold it against": P1 to P12, its two runs of D to R, and the two identity digits, which document 02 refuses with the plain
+-- binary system. Every number here is the documents'; where they leave one out (the matrix of P7 and P12, the room of every run but P5) it is that of the job
+-- of P4, whose room is the program's. The rows on a hundred zeros are our own.
+use mathlib.Core.List.{List, [], _∷_, _++_}
 use Prim.Native.Nat.{ℕ, zero, suc}
 use lib.ListN.{take}
 use lib.IntN.{ℤ, pos}
 use Rattle.digits.specs.BuiltIn.{minus, row, rowsR, rowsB, rowsD}
+use Rattle.admission.specs.Named.{identities, plainBinary}
 use Rattle.states.specs.Types.{Held, Nothing, Digit}
-use Rattle.worked.specs.Claims.{Job, Ending, Claim, included, ends-only, opening, judged, ended, cancelled, prints}
+use Rattle.worked.specs.Claims.{Job, Ending, Claim, included, ends-only, opening, judged, rated, ended, cancelled, prints}
 
 -- four numbers: a matrix a b c d, or an interval x0 x1 y0 y1
 abbrev pub four : ℤ → ℤ → ℤ → ℤ → List ℤ
@@ -23,11 +25,9 @@ abbrev pub endless : ℕ → List ℕ
 endless zero = []
 endless (suc n) = 2 ∷ 0 ∷ endless n
 
--- "Two digits, both F = 1 0 0 1, with intervals (0, infinity) and (infinity, 0)"
-abbrev pub identities : List (List ℤ)
-identities =
-    row (pos 1) (pos 0) (pos 0) (pos 1) (pos 0) (pos 1) (pos 1) (pos 0) ∷
-    row (pos 1) (pos 0) (pos 0) (pos 1) (pos 1) (pos 0) (pos 0) (minus 1) ∷ []
+-- R, and a digit that stands for a hundred digits 0
+abbrev pub hundredZeros : List (List ℤ)
+hundredZeros = rowsR ++ (row (pos 1) (pos 0) (pos 100) (pos 1) (pos 0) (pos 1) (pos 1) (pos 100) ∷ [])
 
 abbrev pub table : List Claim
 table =
@@ -72,11 +72,23 @@ table =
     -- "Of 29 digits: end 0, same X, nothing held."
     ended (job rowsD rowsR (four (pos 3) (minus 1) (pos 0) (pos 1)) (take 29 (endless 15)) 8192)
     (ends 0 29 [] (four (pos 3) (pos 1) (pos 0) (pos 536870912)) Nothing) ∷
-    -- the two identity digits: "admitted. M 1 0 0 1, word 0 fills any room with 0 and ends 20."
-    judged identities 0 ∷
+    -- the two identity digits: "Document 01's last run becomes a refusal", as a system, as a file, and "also in runs"
+    judged identities 18 ∷
+    prints (job identities identities (four (pos 1) (pos 0) (pos 0) (pos 1)) (0 ∷ []) 8192) 81 "refused 18 0\n" ∷
     ended (job identities identities (four (pos 1) (pos 0) (pos 0) (pos 1)) (0 ∷ []) 0)
-    (ends 20 1 [] (four (pos 1) (pos 0) (pos 0) (pos 1)) (Digit 0)) ∷
+    (ends 18 0 [] (four (pos 1) (pos 0) (pos 0) (pos 1)) Nothing) ∷
     ended (job identities identities (four (pos 1) (pos 0) (pos 0) (pos 1)) (0 ∷ []) 1)
-    (ends 20 1 (0 ∷ []) (four (pos 1) (pos 0) (pos 0) (pos 1)) (Digit 0)) ∷
+    (ends 18 0 [] (four (pos 1) (pos 0) (pos 0) (pos 1)) Nothing) ∷
     ended (job identities identities (four (pos 1) (pos 0) (pos 0) (pos 1)) (0 ∷ []) 5)
-    (ends 20 1 (0 ∷ 0 ∷ 0 ∷ 0 ∷ 0 ∷ []) (four (pos 1) (pos 0) (pos 0) (pos 1)) (Digit 0)) ∷ []
+    (ends 18 0 [] (four (pos 1) (pos 0) (pos 0) (pos 1)) Nothing) ∷
+    -- "Document 004's plain binary system, with 2x on (1, −1), is now refused: at 5/4 the rate is 82/89."
+    judged plainBinary 18 ∷
+    rated plainBinary 2 (record { z0 = pos 5; z1 = pos 4 }) 82 89 ∷
+    -- a room that one digit fills with 0, and ends 20: what the identity digits did
+    judged hundredZeros 0 ∷
+    ended (job hundredZeros rowsR (four (pos 1) (pos 0) (pos 0) (pos 1)) (4 ∷ []) 0)
+    (ends 20 1 [] (four (pos 1) (pos 0) (pos 0) (pos 1)) (Digit 4)) ∷
+    ended (job hundredZeros rowsR (four (pos 1) (pos 0) (pos 0) (pos 1)) (4 ∷ []) 1)
+    (ends 20 1 (0 ∷ []) (four (pos 1) (pos 0) (minus 1) (pos 1)) (Digit 4)) ∷
+    ended (job hundredZeros rowsR (four (pos 1) (pos 0) (pos 0) (pos 1)) (4 ∷ []) 5)
+    (ends 20 1 (0 ∷ 0 ∷ 0 ∷ 0 ∷ 0 ∷ []) (four (pos 1) (pos 0) (minus 5) (pos 1)) (Digit 4)) ∷ []

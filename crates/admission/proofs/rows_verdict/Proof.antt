@@ -1,9 +1,11 @@
--- `admission::rows_verdict` meets its contract: a search for the first row that is refused; where there is none, every interval is small enough for the cover test.
-use Rattle.whole.proofs.Laws.{needs, _≡_, sym, ap, ap₂, _∙_, Bool, not, cond, none, ℕ, _-_, arith, eq-eqb, ne-eqb, now, first, Standing, begins, misses, hits, ends, first-none}
+-- `admission::rows_verdict` meets its contract: a search for the first row that is refused; where there is none, every number is small enough for the tests of the cover and of expanding.
+use Rattle.whole.proofs.Laws.{needs, _≡_, sym, ap, ap₂, _∙_, Bool, not, not-true, not-false, cond, none, ℕ, _-_, arith, eq-eqb, ne-eqb, now, first, Standing, begins, misses, hits, ends, first-none}
 use Rattle.digits.proofs.Laws.{System, lent, DigitThere, digit-there}
-use Rattle.admission.specs.Types.{Admitted, Uncovered}
-use Rattle.admission.specs.Admission.{refusalNumber, refused?, rowVerdict, verdictOfRow, firstVerdict, rowsVerdict}
-use Rattle.admission.proofs.AdmittedSays.{digit-says, small}
+use Rattle.expanding.proofs.Laws.{allExpand?}
+use Rattle.admission.specs.Types.{Admitted, NotExpanding}
+use Rattle.admission.specs.Admission.{refusalNumber, refused?, rowVerdict, verdictOfRow, behindRows, firstVerdict, rowsVerdict}
+use Rattle.admission.specs.Admitted.{Digits}
+use Rattle.admission.proofs.AdmittedSays.{digit-says, small, small-rows}
 use Rattle.admission.proofs.rows_verdict.Statement.{statement}
 use Rattle.admission.proofs.rows_verdict.Tie as tie
 
@@ -49,18 +51,34 @@ loop-again c =
 none-left : (c : tie.After-loop Inv-loop μ-loop) → first (test (of (c .before .before))) (c .before .before .args .n) 0 ≡ none
 none-left c = ends (c .before .loop .inv) (c .loop-test .left)
 
-covered-requires : tie.Need-covered-requires Inv-loop μ-loop
-covered-requires c κs =
-    let b = c .before .before in
-    (b .pre .0, b .pre .1, small (of b) (λ a h. digit-says (of b) a (first-none (test (of b)) (b .args .n) 0 (none-left c) a (omega arith) (omega arith))))
+all-digits : (c : tie.After-loop Inv-loop μ-loop) → Digits (of (c .before .before))
+all-digits c a h =
+    let s = of (c .before .before) in
+    digit-says s a (first-none (test s) (s .count) 0 (none-left c) a (omega arith) (omega arith))
 
--- so the cover decides
-by-cover : (c : tie.After-covered Inv-loop μ-loop) → cond (c .covered .result) Admitted Uncovered ≡ rowsVerdict (of (c .before .before .before))
+covered-requires : tie.Need-covered-requires Inv-loop μ-loop
+covered-requires c κs = let b = c .before .before in (b .pre .0, b .pre .1, small (of b) (all-digits c))
+
+all-expand-requires : tie.Need-all-expand-requires Inv-loop μ-loop
+all-expand-requires c κs = let b = c .before .before .before .before in (b .pre .0, b .pre .1, small-rows (of b) (all-digits (c .before .before)))
+
+-- so what is asked behind the rows decides, as the code has it
+behind : (c : tie.After-covered Inv-loop μ-loop) {e : Bool} → let s = of (c .before .before .before) in e ≡ allExpand? s → behindRows (c .covered .result) e ≡ rowsVerdict s
 unfolding rowsVerdict
-by-cover c = sym (ap (firstVerdict (of (c .before .before .before))) (none-left (c .before)) ∙ ap (λ t. cond t Admitted Uncovered) (sym (c .covered .ensures)))
+behind c q = ap₂ behindRows (c .covered .ensures) q ∙ sym (ap (firstVerdict (of (c .before .before .before))) (none-left (c .before)))
+
+returns-2 : tie.Need-returns-2 Inv-loop μ-loop
+returns-2 c =
+    let r = c .before in
+    ap (λ t. behindRows t (allExpand? (of (r .before .before .before)))) (sym (not-true (r .covered .result) (c .if2 .taken))) ∙ behind r (λ i. allExpand? (of (r .before .before .before)))
+
+expanded : (c : tie.After-all-expand Inv-loop μ-loop) {e : Bool} → c .all-expand .result ≡ e → cond e Admitted NotExpanding ≡ rowsVerdict (of (c .before .before .before .before .before))
+expanded c q =
+    let r = c .before .before in
+    ap₂ behindRows (sym (not-false (r .covered .result) (c .before .if2 .left))) (sym q) ∙ behind r (c .all-expand .ensures)
 
 pub rows-verdict-spec : {M : Type 1} → statement M
 rows-verdict-spec = tie.close (tie.spec
     Inv-loop μ-loop (λ c. begins) (λ c κs. there c) (λ c κs. there (c .before)) (λ c κs. search needs) (λ c κs. search needs) returns (λ c. search needs)
-    (λ c. search needs) loop-again covered-requires (λ c. ap (λ t. cond t Admitted Uncovered) (sym (c .if2 .taken)) ∙ by-cover (c .before))
-    (λ c. ap (λ t. cond t Admitted Uncovered) (sym (c .if2 .left)) ∙ by-cover (c .before)))
+    (λ c. search needs) loop-again covered-requires returns-2 all-expand-requires
+    (λ c. let x = c .before in expanded x (not-true (x .all-expand .result) (c .if3 .taken))) (λ c. let x = c .before in expanded x (not-false (x .all-expand .result) (c .if3 .left))))

@@ -1,0 +1,2 @@
+-- What it is that a row expands, and the test of it.
+pub mod Expanding
