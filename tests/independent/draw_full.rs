@@ -11,7 +11,8 @@ use crate::unexpanding::IDENTITIES;
 pub fn full_output(chance: &mut Chance, turn: usize) -> Vec<u8> {
     let job = match turn % 8 {
         0 | 4 => a_hundred_for_one(chance),
-        1 | 5 => room_and_range(chance.pick(&[939, 939, 763, 904])),
+        // By turns and not by chance: that the room is asked for before the range shows only where both end at the same step, whatever the seed is.
+        1 | 5 => room_and_range([939, 763, 939, 904][turn / 4 % 4]),
         2 => one_digit_for_ever(chance),
         _ => more_digits_out(chance),
     };
