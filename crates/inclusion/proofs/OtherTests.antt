@@ -3,8 +3,8 @@
 -- ends as points, and never passes wrongly. P2 and P3 are cases of the first, and every interval is, with itself, a case of the second, as P1.
 -- The argument: the three tests are put together from the same five answers, and where they differ is seen by trying these out (`round-of`, `equal-of`); what the
 -- answers say is in InclusionTests.antt, and that `included?` is never wrong in Inclusion.antt.
-use Rattle.whole.proofs.Laws.{_≡_, refl, sym, _∙_, Bool, true, false, not, _&&_, _||_, false≢true, true≢false, List, [], _∷_, _↔_, ℤ, pos, negℤ, ltZ-yes, at, _⊗_, #, _≦_, _≺_, _≈_, never, h, _⊡_, linear, _&_, _⇒_, _from_, claim, both-true, true-both, false-by}
-use Rattle.plane.proofs.Laws.{Det, Point, left, right, Interval, Closed, same-refl, same-sym, closed-same}
+use Rattle.whole.proofs.Laws.{_≡_, refl, sym, _∙_, Bool, true, false, not, _&&_, _||_, false≢true, true≢false, List, [], _∷_, _↔_, ℤ, pos, negℤ, ltZ-yes, at, _⊗_, #, _≦_, _≺_, linear, _from_, claim, both-true, true-both, false-by}
+use Rattle.plane.proofs.Laws.{Det, Point, left, right, Interval, Closed, left-point, right-point, same-refl, same-sym, closed-same}
 use Rattle.inclusion.specs.Inclusion.{closed?, same?, included?}
 use Rattle.inclusion.specs.OtherTests.{test000, test001, WronglyPasses, WronglyFails, SameEndPoints, GoesRound}
 use Rattle.inclusion.proofs.InclusionTests.{closed-says, says-closed, same-says, says-same}
@@ -58,19 +58,7 @@ equal-of true false e u v p q = absurd (false≢true q)
 equal-of true true true u v p q = refl
 equal-of true true false u v p q = absurd (true≢false (sym q ∙ p))
 
--- ---- the ends of an interval are points, and are in it, closed
-
-left-point : {w : List ℤ} → Interval w → Point (left w)
-left-point {w} p = record {
-  not-both =
-      claim 4 (λ a b c d. Det a b c d ≺ # 0 ⇒ a ≈ # 0 ⇒ b ≈ # 0 ⇒ never from linear & d ⊡ h 2 & c ⊡ h 3) tt (at w 0) (at w 1) (at w 2) (at w 3) (p .below);
-}
-
-right-point : {w : List ℤ} → Interval w → Point (right w)
-right-point {w} p = record {
-  not-both =
-      claim 4 (λ a b c d. Det a b c d ≺ # 0 ⇒ c ≈ # 0 ⇒ d ≈ # 0 ⇒ never from linear & b ⊡ h 2 & a ⊡ h 3) tt (at w 0) (at w 1) (at w 2) (at w 3) (p .below);
-}
+-- ---- the ends of an interval are in it, closed
 
 own-left : (w : List ℤ) → Closed w (left w)
 own-left w = record { not-below = claim 4 (λ a b c d. # 0 ≦ Det a b a b ⊗ Det a b c d from linear) tt (at w 0) (at w 1) (at w 2) (at w 3) }

@@ -10,7 +10,7 @@ pub use Rattle.plane.proofs.Identities.{apply-scale, apply-scalePair, m
 pub use Rattle.plane.proofs.Identities.{apply-identity, multiply-identity-left, multiply-identity-right, pseudoinverse-left, pseudoinverse-right}
 pub use Rattle.plane.proofs.Identities.{pseudoinverse-apply, apply-pseudoinverse, multiply-pseudoinverse}
 -- a matrix with determinant above 0 keeps intervals, insides, closed intervals and points
-pub use Rattle.plane.proofs.Moves.{det-above-multiply, det-above-pseudoinverse, interval-moves, interval-back, point-moves, point-back, point-scale}
+pub use Rattle.plane.proofs.Moves.{det-above-multiply, det-above-pseudoinverse, interval-moves, interval-back, left-point, right-point, point-moves, point-back, point-scale}
 pub use Rattle.plane.proofs.Moves.{between, inside-sign, closed-sign, inside-moves, inside-back, closed-moves, closed-back}
 -- what is inside an interval is a mixture of its ends
 pub use Rattle.plane.proofs.Mixtures.{mix, cramer, mix-inside, inside-point}
@@ -28,6 +28,6 @@ pub use Rattle.plane.proofs.Ranges.{within-products, pseudoinverse-with
 -- the definitions
 pub use Rattle.plane.specs.Plane.{Closed, Inside, Interval, Pair, Point, SamePoint, det, left, right}
 unfoldable pub use Rattle.plane.specs.Plane.{apply, cancelOf, determinantOf, imageOf, multiplyOf, pseudoinverseOf}
-pub use Rattle.plane.specs.Scale.{DetAbove, entries}
+pub use Rattle.plane.specs.Scale.{DetAbove, SameEnds, entries}
 pub use Rattle.plane.specs.Below.{infinityToMinus1, BelowMinus1}
 unfoldable pub use Rattle.plane.specs.Scale.{scaleOf, scalePair}

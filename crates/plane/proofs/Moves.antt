@@ -2,11 +2,11 @@
 -- image of an interval is an interval, and the image of a point is a point.
 -- The argument: every determinant of two images is the matrix's determinant D times that of the two pairs (`det-apply`), so the product that says "inside" grows by D·D
 -- and keeps its sign. For points: the pseudoinverse leads back from the image to D times the point.
-use Rattle.whole.proofs.Laws.{_≡_, sym, _∙_, subst, List, ℤ, pos, _+ℤ_, _*ℤ_, _<ℤ_, at, _⊕_, _⊗_, #, _≗_, law, ps-mul, _≈_, h, _⊡_, linear, _&_, _⇒_, _from_, claim}
+use Rattle.whole.proofs.Laws.{_≡_, sym, _∙_, subst, List, ℤ, pos, _+ℤ_, _*ℤ_, _<ℤ_, at, _⊕_, _⊗_, #, _≗_, law, ps-mul, _≺_, _≈_, never, h, _⊡_, linear, _&_, _⇒_, _from_, claim}
 use Rattle.plane.specs.Plane.{Pair, Point, det, left, right, apply, determinantOf, pseudoinverseOf, multiplyOf, imageOf, Interval, Inside, Closed}
 use Rattle.plane.specs.Scale.{scalePair, DetAbove, SameSign}
 use Rattle.plane.proofs.SameSign.{grown, sign-back, sign-not-below, above-not-0, cancel-not-0}
-use Rattle.plane.proofs.Identities.{det-apply, determinant-multiply, determinant-pseudoinverse, pseudoinverse-apply}
+use Rattle.plane.proofs.Identities.{Det, det-apply, determinant-multiply, determinant-pseudoinverse, pseudoinverse-apply}
 
 -- ---- the matrices that keep
 
@@ -59,6 +59,19 @@ pub interval-back : {m w : List ℤ} → DetAbove m → Interval (imageOf m w) �
 interval-back {w = w} k i = record { below = sign-back (ends-move k w) .below (i .below) }
 
 -- ---- points
+
+-- the ends of an interval
+pub left-point : {w : List ℤ} → Interval w → Point (left w)
+left-point {w} p = record {
+  not-both =
+      claim 4 (λ a b c d. Det a b c d ≺ # 0 ⇒ a ≈ # 0 ⇒ b ≈ # 0 ⇒ never from linear & d ⊡ h 2 & c ⊡ h 3) tt (at w 0) (at w 1) (at w 2) (at w 3) (p .below);
+}
+
+pub right-point : {w : List ℤ} → Interval w → Point (right w)
+right-point {w} p = record {
+  not-both =
+      claim 4 (λ a b c d. Det a b c d ≺ # 0 ⇒ c ≈ # 0 ⇒ d ≈ # 0 ⇒ never from linear & b ⊡ h 2 & a ⊡ h 3) tt (at w 0) (at w 1) (at w 2) (at w 3) (p .below);
+}
 
 -- a matrix sends (0, 0) to (0, 0): what is sent to a point is a point, whatever the determinant
 pub point-back : (m : List ℤ) {z : Pair} → Point (apply m z) → Point z

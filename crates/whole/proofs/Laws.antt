@@ -17,7 +17,7 @@ pub use Rattle.whole.proofs.Test.{lt-true, lt-false, le-true, le-false,
 -- magnitudes and ranges
 pub use Rattle.whole.proofs.Range.{natAbs-neg, natAbs-zero, near-le, near-neg, near-mul, near-add, near-sub, near-quot, within-le, within-says, says-within}
 -- machine words: what fits is read back, casts, and what stands for a number
-pub use Rattle.whole.proofs.Machine.{back, near-back, ok-back, back-of, held, Fits, size, widen-fits, widen-back, narrow-fits, narrow-back, element-16, unsigned-ok}
+pub use Rattle.whole.proofs.Machine.{near-fits, back, near-back, ok-back, back-of, held, Fits, size, widen-fits, widen-back, narrow-fits, narrow-back, element-16, unsigned-ok}
 pub use Rattle.whole.proofs.Machine.{Stands, stored, literal, unsigned, mul-ok, add-ok, sub-ok, mul-stands, add-stands, sub-stands}
 -- greatest common divisors
 pub use Rattle.whole.proofs.Divisor.{gcd-divides-left, gcd-divides-right, gcd-greatest, quot-exact, gcd4-divides, gcd4-greatest, gcd4-zero, gcd4-times}

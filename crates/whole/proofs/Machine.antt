@@ -10,7 +10,7 @@ use Rattle.whole.proofs.Base.{_≡_, refl, sym, ap, ap₂, subst, subst
 use lib.Signed.{nonNeg, yes-nonNeg}
 use mir.Syntax.{Width, w16, w64}
 use mir.Val as word
-use mir.Val.{SFits, ofZ, toZ}
+use mir.Val.{SFits, hbits, ofZ, toZ}
 use mir.Facts.{toZ-ofZ, toZ-pos, sfits-widen, fits-natAbs}
 use Rattle.whole.specs.Range.{Near}
 use Rattle.whole.proofs.Range.{near-mul, near-add, near-sub}
@@ -21,8 +21,8 @@ mag-le : (z : ℤ) → mag z ≤ natAbs z
 mag-le (pos n) = le-refl n
 mag-le (negsuc n) = omega arith
 
-pub near-fits : {b : ℕ} {z : ℤ} → Near b z → T (ltb b (2 ^ 63)) → SFits w64 z
-near-fits {b} {z} h t = record { sfits = lt-of-le-of-lt (mag-le z) (lt-of-le-of-lt (h .near) (ltb→lt b (2 ^ 63) t)) }
+pub near-fits : {w : Width} {b : ℕ} {z : ℤ} → Near b z → T (ltb b (2 ^ hbits w)) → SFits w z
+near-fits {w} {b} {z} h t = record { sfits = lt-of-le-of-lt (mag-le z) (lt-of-le-of-lt (h .near) (ltb→lt b (2 ^ hbits w) t)) }
 
 pub back : {b : ℕ} {z : ℤ} → Near b z → T (ltb b (2 ^ 63)) → toZ w64 (ofZ w64 z) ≡ z
 back h t = toZ-ofZ (near-fits h t)
