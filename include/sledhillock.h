@@ -126,7 +126,8 @@ enum { SLED_R_DIGITS = 4, SLED_B_DIGITS = 8, SLED_D_DIGITS = 4 };
 uint32_t sled_admit(size_t digits, const int16_t *columns, size_t length);
 
 /* The columns of a built-in system: R (4 digits, close to continued fractions: the word 1..1 0..0 1..1 .. with runs of a, b, c, .. names [a, b, c, ..]; digits 2 and 3 are for
-   negative numbers), B (8 digits, the bimodular system with its maximal cover) and D (4 digits, binary redundant).
+   negative numbers), B (8 digits, the bimodular system with its maximal cover; F of digit 7 - a at x is -F(-x) of digit a, and digit a + 2, modulo 8, is digit a turned by
+   (x + 1)/(1 - x)) and D (4 digits, binary redundant).
    length has to be SLED_COLUMNS. Answers 0 and writes all 128 numbers, 0 in the unused places; or SLED_REFUSED_LENGTH, and writes nothing. Their counts of digits are
    SLED_R_DIGITS, SLED_B_DIGITS and SLED_D_DIGITS. */
 uint32_t sled_system_r(int16_t *columns, size_t length);

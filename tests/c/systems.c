@@ -17,7 +17,39 @@ void built_in(void) {
     handed_out(sled_system_r, R, "sled_system_r");
     handed_out(sled_system_b, B, "sled_system_b");
     handed_out(sled_system_d, D, "sled_system_d");
+    symmetric();
     check(R.digits == SLED_R_DIGITS && B.digits == SLED_B_DIGITS && D.digits == SLED_D_DIGITS, "the header's counts of digits", 0);
+}
+
+/* ---- system B by its two laws: with R(x) = (x + 1)/(1 - x), digit a + 2 is digit a turned, counting modulo 8, and digit 7 - a is digit a reflected */
+
+/* number j of digit a, as sled_system_b wrote it */
+static long of_b(int j, int a) { return now.in_columns[16 * j + a]; }
+
+/* the end that begins at number j of one digit, sent by m, is the end that begins at number k of another, as a point */
+static int same_end(const long *m, int j, int from, int k, int to) {
+    long z0 = m[0] * of_b(j, from) + m[1] * of_b(j + 1, from), z1 = m[2] * of_b(j, from) + m[3] * of_b(j + 1, from);
+    return z0 * of_b(k + 1, to) == z1 * of_b(k, to) && (z0 != 0 || z1 != 0);
+}
+
+/* F of `to` is m F m inverse, number for number: (F of `to`) m = m (F of `from`) */
+static int conjugated(const long *m, int from, int to) {
+    int right = 1;
+    for (int row = 0; row < 2; row++)
+        for (int column = 0; column < 2; column++)
+            right &= of_b(2 * row, to) * m[column] + of_b(2 * row + 1, to) * m[2 + column] == m[2 * row] * of_b(column, from) + m[2 * row + 1] * of_b(2 + column, from);
+    return right;
+}
+
+static void symmetric(void) {
+    const long turn[4] = {1, 1, -1, 1}, reflect[4] = {-1, 0, 0, 1};
+    begin();
+    sled_system_b(now.in_columns, SLED_COLUMNS);
+    for (int a = 0; a < 8; a++) {
+        int next = (a + 2) % 8, across = 7 - a;
+        check(conjugated(turn, a, next) && same_end(turn, 4, a, 4, next) && same_end(turn, 6, a, 6, next), "B turned is B", a);
+        check(conjugated(reflect, a, across) && same_end(reflect, 4, a, 6, across) && same_end(reflect, 6, a, 4, across), "B reflected is B", a);
+    }
 }
 
 /* ---- admission */

@@ -7,20 +7,22 @@ use crate::draw_stretching::{decimal, stretching, SCALING};
 use crate::draw_systems::*;
 use crate::plane::{determinant, product, Matrix};
 use crate::reading::Job;
+use crate::symmetry::{symmetric, symmetric_or_built_in, too_short_or_long};
 use crate::systems::{Row, B, D, R};
 
 /// A kind of case: its share of SLOTS, its name, and how a file is drawn. The number handed over counts the times that this kind came up; a kind that
 /// goes through places one after another goes by it.
 pub type Kind = (usize, &'static str, fn(&mut Chance, usize) -> Vec<u8>);
 
-/// The kinds take turns: of any 47 cases in a row, each kind has its share.
-pub const SLOTS: usize = 47;
+/// The kinds take turns: of any 50 cases in a row, each kind has its share.
+pub const SLOTS: usize = 50;
 
-pub const KINDS: [Kind; 21] = [
+pub const KINDS: [Kind; 23] = [
     (5, "built-in systems, a word that names a fraction", |c, _| with_systems(c, built_in, built_in, word_of_fraction)),
     (4, "built-in systems, digits by chance", |c, _| with_systems(c, built_in, built_in, digits_by_chance)),
     (3, "built-in systems in other coordinates", |c, _| with_systems(c, changed, any_system, some_word)),
     (4, "covers between points by chance", |c, _| with_systems(c, any_system, cover, some_word)),
+    (2, "B's transformations with other intervals, by symmetry", |c, _| with_systems(c, symmetric, symmetric_or_built_in, some_word)),
     (3, "digits in another order, twice, not needed", |c, _| with_systems(c, decorated, decorated, some_word)),
     (2, "digits that stretch, entries near the range's ends", |c, _| with_systems(c, stretching, stretching_or_other, digits_by_chance)),
     (2, "powers of ten, entries at the range's ends", |c, _| powers_of_ten(c)),
@@ -35,6 +37,7 @@ pub const KINDS: [Kind; 21] = [
     (3, "damaged: a row", |c, _| damaged_job(c, damage::break_row)),
     (2, "damaged: a cover", |c, _| damaged_job(c, damage::break_cover)),
     (4, "damaged: a row that does not expand", |c, _| damaged_job(c, damage::break_growth)),
+    (1, "damaged: intervals by symmetry that are too short or too long", |c, _| off_symmetric(c)),
     (1, "damaged: the matrix", |c, _| damaged_job(c, damage::break_matrix)),
     (2, "damaged: several things at once", |c, _| damaged_often(c)),
     (1, "damaged: bytes by chance", |c, _| damaged_file(c, damage::change_bytes)),
@@ -174,6 +177,12 @@ fn limit_matrix(chance: &mut Chance) -> Matrix {
             return m;
         }
     }
+}
+
+/// The input system or the output system, or both.
+fn off_symmetric(chance: &mut Chance) -> Vec<u8> {
+    let [input, output] = chance.pick::<[System; 2]>(&[[too_short_or_long, built_in], [symmetric, too_short_or_long], [too_short_or_long, too_short_or_long]]);
+    with_systems(chance, input, output, digits_by_chance)
 }
 
 /// A whole job to be damaged.

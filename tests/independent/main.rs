@@ -1,5 +1,5 @@
-//! An implementation of document 01 and of document 02's request T-04, written from their sentences alone, to be held against the proved programs;
-//! and a generator of job files. What it can be asked for is in USAGE below.
+//! An implementation of document 01 and of document 02's requests T-04 and T-05, written from their sentences alone, to be held against the proved
+//! programs; and a generator of job files. What it can be asked for is in USAGE below.
 
 mod chance;
 mod damage;
@@ -14,6 +14,7 @@ mod reading;
 mod running;
 mod self_test;
 mod show;
+mod symmetry;
 mod systems;
 mod trace;
 mod unexpanding;

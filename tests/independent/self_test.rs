@@ -1,13 +1,14 @@
 //! This implementation held against what document 01 says itself: its examples (P1 to P12 and the other runs), and its own test of inclusion; and
-//! against what document 02 says of systems that expand (T-04).
+//! against what document 02 says of systems that expand (T-04) and of system B (T-05).
 
 use crate::draw_full::room_and_range;
 use crate::draw_jobs::{documents_job, layout};
 use crate::draw_stretching::hundred_of;
 use crate::expanding::{expands, growth, rate};
-use crate::plane::{cancel, covered, det, determinant, in_closed, inside, included, Interval, Matrix, Point};
+use crate::plane::{cancel, covered, det, determinant, in_closed, inside, included, send, Interval, Matrix, Point};
 use crate::reading::{judge_system, read, Job};
 use crate::running::{printed, run};
+use crate::symmetry::{from_row_0, negative, quarter, reflected, same_digit, turned, with_interval_0};
 use crate::systems::{f, w, Row, B, D, R};
 use crate::unexpanding::{IDENTITIES, PLAIN_BINARY};
 
@@ -20,6 +21,7 @@ pub fn all() {
     full_rooms(&mut tests);
     expanding_systems(&mut tests);
     order_of_18(&mut tests);
+    symmetry_of_b(&mut tests);
     tests.push(("inclusion by points is document 01's test", inclusion_both_ways()));
     tests.push(("a system with a gap is not covered", gaps_are_seen()));
     tests.push(("small digits expand exactly if no point inside fails", growth_is_seen()));
@@ -137,6 +139,43 @@ fn order_of_18(tests: &mut Tests) {
     tests.push(("18 of the input system before 10 of the other", refused(&job(&IDENTITIES, &R[..3], [1, 0, 0, 1], &[]), 18, 0)));
     tests.push(("10 of the input system before 18 of the other", refused(&job(&R[..3], &IDENTITIES, [1, 0, 0, 1], &[]), 10, 0)));
     tests.push(("18 before the matrix", refused(&job(&R, &IDENTITIES, [1, 1, 1, 1], &[]), 18, 1)));
+}
+
+/// "New colleagues must check 64 numbers to believe system B." Beside the two laws, what document 001 says of it: these are all transformations with
+/// determinant 2, norm √6 and trace 3, and the maximal cover has each interval end where the digit neither stretches nor shrinks.
+fn symmetry_of_b(tests: &mut Tests) {
+    let mut all = small_matrices(2);
+    all.retain(|&[a, b, c, d]| (determinant([a, b, c, d]), a * a + b * b + c * c + d * d, a + d) == (2, 6, 3));
+    tests.push(("B has all transformations of determinant 2, norm √6 and trace 3", all.len() == 8 && B.iter().all(|row| all.contains(&f(row)))));
+    let at_its_ends = |row: &Row| [w(row).left, w(row).right].iter().all(|&z| growth(f(row), z) == 0);
+    tests.push(("B's intervals are where its digits expand", B.iter().all(|row| at_its_ends(row) && expands(f(row), w(row)))));
+    tests.push(("row 0 makes B", from_row_0(B[0]).iter().zip(&B).all(|(r, s)| same_digit(r, s))));
+    tests.push(("B turned is B", (0..8).all(|a| same_digit(&turned(&B[a]), &B[(a + 2) % 8]))));
+    tests.push(("B reflected is B", (0..8).all(|a| same_digit(&reflected(&B[a]), &B[7 - a]))));
+    tests.push(("at each point of a grid too, turned", (0..8).all(|a| carried(quarter, &B[a], &B[(a + 2) % 8]))));
+    tests.push(("and reflected", (0..8).all(|a| carried(negative, &B[a], &B[7 - a]))));
+    tests.push(("other intervals by symmetry are admitted in document 001's bounds", bounds_are_seen()));
+}
+
+/// What F sends z to, the map carries to where G sends what z is carried to; and z is inside W exactly if it is carried inside V.
+fn carried(map: fn(Point) -> Point, from: &Row, to: &Row) -> bool {
+    let grid = (-9..=9).flat_map(|z0| (0..=9).map(move |z1| [z0, z1])).filter(|z| *z != [0, 0]);
+    grid.into_iter().all(|z| det(map(send(f(from), z)), send(f(to), map(z))) == 0 && inside(w(from), z) == inside(w(to), map(z)))
+}
+
+/// With W_0 from −p to q, in 24ths: the digits cover and expand if 0 ≤ p ≤ 1/3 and √2 − 1 < q ≤ 1. If p or q is larger they still cover and do not
+/// expand. If p or q is smaller they leave a gap, unless the other is so large that another digit fills it, as with q = 1.
+fn bounds_are_seen() -> bool {
+    let all = (-8..=16).flat_map(|p| (1..=40).map(move |q| (p, q))).filter(|(p, q)| p + q > 0);
+    all.into_iter().all(|(p, q)| {
+        let covers = p >= 0 && (q + 24) * (q + 24) > 2 * 24 * 24;
+        let verdict = judge_system(&with_interval_0([p, 24], [q, 24]));
+        match (covers, p <= 8 && q <= 24) {
+            (true, grows) => verdict == if grows { Ok(()) } else { Err(18) },
+            (false, true) => verdict == Err(10) || q == 24,
+            (false, false) => true,
+        }
+    })
 }
 
 /// All intervals with ends of numbers up to that size.

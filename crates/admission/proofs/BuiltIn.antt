@@ -43,7 +43,7 @@ passed-admissible (rs ∷ tables) e =
     (table-admissible rs (p .0), passed-admissible tables (p .1))
 
 pub built-in-admitted : Each (rowsR ∷ rowsD ∷ rowsB ∷ [])
-unfolding admissionOf rowsVerdict rowVerdict within? determinantOf gcd gcd4 gcdBy transformationBy intervalBy first closed? same? apply formOf expands? stored
+unfolding admissionOf rowsVerdict rowVerdict within? determinantOf gcd gcd4 gcdBy transformationBy intervalBy first closed? same? apply formOf expands? rowsB stored
 built-in-admitted = passed-admissible (rowsR ∷ rowsD ∷ rowsB ∷ []) refl
 
 pub r-admitted : AdmissibleTable rowsR
@@ -75,7 +75,7 @@ pub record Judged : Type 0 where
   pub one-digit : admissionOfTable (take 1 rowsR) ≡ Uncovered
 
 pub judged : Judged
-unfolding admissionOf rowsVerdict rowVerdict within? determinantOf gcd gcd4 gcdBy transformationBy intervalBy first closed? same? apply formOf expands? stored
+unfolding admissionOf rowsVerdict rowVerdict within? determinantOf gcd gcd4 gcdBy transformationBy intervalBy first closed? same? apply formOf expands? rowsB stored
 judged = record {
   p11 = refl;
   p11-number = refl;

@@ -21,7 +21,7 @@ abbrev sixteen : StoredSystem
 sixteen = stored (rowsB ++ rowsB)
 
 sixteen-rules : SystemRules sixteen
-unfolding stored rowsIn
+unfolding rowsB stored rowsIn
 sixteen-rules = record { admissible = admitted-exactly (systemOf sixteen) Admitted .0 (judged .sixteen-twice); unused = refl }
 
 abbrev largestJob : Contents
@@ -41,7 +41,7 @@ largest-rules = record {
 }
 
 pub largest-reached : (c : Contents) × Rules c × (length (layoutOf c) ≡ 4624)
-unfolding stored
+unfolding rowsB stored
 largest-reached = (largestJob, largest-rules, omega (arith, layout-length largestJob largest-rules, length-replicate {A = ℕ} 4096 0))
 
 -- ---- what the first 4,625 bytes settle

@@ -4,6 +4,7 @@ use Prim.Native.Nat.{ℕ, zero, suc, _/_, _%_}
 use lib.ListN.{getD, length}
 use lib.IntN.{ℤ, pos, negsuc}
 use Rattle.whole.specs.Range.{at}
+use Rattle.symmetry.specs.Symmetry.{turned, reflected}
 use Rattle.digits.specs.Types.{StoredSystem}
 use Rattle.digits.specs.Orders.{tabulated, columnsOf}
 
@@ -29,16 +30,22 @@ rowsD =
     row (pos 1) (pos 1) (pos 0) (pos 2) (pos 0) (pos 1) (pos 2) (pos 1) ∷
     row (pos 2) (pos 0) (pos 0) (pos 1) (pos 3) (pos 2) (pos 3) (minus 2) ∷ []
 
-abbrev pub rowsB : List (List ℤ)
+-- B is row 0 and two laws (crates/symmetry): "Let the rows be worked out from row 0 by these." From a to a+2 by turning, "counting modulo 8", and from a to 7−a
+-- by reflecting. Along this way every number is document 01's, sign included; that no other way leads to other digits is `b-by-symmetry`
+abbrev pub rowB0 : List ℤ
+rowB0 = row (pos 1) (pos 0) (pos 1) (pos 2) (minus 1) (pos 3) (pos 1) (pos 1)
+
+unfoldable pub rowsB : List (List ℤ)
+unfolding turned reflected
 rowsB =
-    row (pos 1) (pos 0) (pos 1) (pos 2) (minus 1) (pos 3) (pos 1) (pos 1) ∷
-    row (pos 1) (pos 1) (pos 0) (pos 2) (pos 0) (pos 1) (pos 2) (pos 1) ∷
-    row (pos 2) (pos 0) (pos 1) (pos 1) (pos 1) (pos 2) (pos 1) (pos 0) ∷
-    row (pos 2) (pos 1) (pos 0) (pos 1) (pos 1) (pos 1) (pos 3) (minus 1) ∷
-    row (pos 2) (minus 1) (pos 0) (pos 1) (pos 3) (pos 1) (pos 1) (minus 1) ∷
-    row (pos 2) (pos 0) (minus 1) (pos 1) (pos 1) (pos 0) (pos 1) (minus 2) ∷
-    row (pos 1) (minus 1) (pos 0) (pos 2) (minus 2) (pos 1) (pos 0) (pos 1) ∷
-    row (pos 1) (pos 0) (minus 1) (pos 2) (minus 1) (pos 1) (pos 1) (pos 3) ∷ []
+    let b2 = turned rowB0 in
+    let b4 = turned b2 in
+    let b7 = reflected rowB0 in
+    let b1 = turned b7 in
+    let b3 = turned b1 in
+    let b5 = turned b3 in
+    let b6 = reflected b1 in
+    rowB0 ∷ b1 ∷ b2 ∷ b3 ∷ b4 ∷ b5 ∷ b6 ∷ b7 ∷ []
 
 -- rows one behind the other
 abbrev pub joined : List (List ℤ) → List ℤ

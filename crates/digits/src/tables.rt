@@ -6,7 +6,7 @@ use crate::System;
 // A row that no digit uses.
 const NO_ROW: [i16; 8] = [0, 0, 0, 0, 0, 0, 0, 0];
 
-// The built-in systems, a row of eight numbers for each digit: F as a b c d, then W as x0 x1 y0 y1.
+// The built-in systems R and D, a row of eight numbers for each digit: F as a b c d, then W as x0 x1 y0 y1.
 const R: [[i16; 8]; 16] = [
     [1, 0, 1, 1, 0, 1, 1, 1],
     [1, 1, 0, 1, 1, 1, 1, 0],
@@ -45,24 +45,8 @@ const D: [[i16; 8]; 16] = [
     NO_ROW,
 ];
 
-const B: [[i16; 8]; 16] = [
-    [1, 0, 1, 2, -1, 3, 1, 1],
-    [1, 1, 0, 2, 0, 1, 2, 1],
-    [2, 0, 1, 1, 1, 2, 1, 0],
-    [2, 1, 0, 1, 1, 1, 3, -1],
-    [2, -1, 0, 1, 3, 1, 1, -1],
-    [2, 0, -1, 1, 1, 0, 1, -2],
-    [1, -1, 0, 2, -2, 1, 0, 1],
-    [1, 0, -1, 2, -1, 1, 1, 3],
-    NO_ROW,
-    NO_ROW,
-    NO_ROW,
-    NO_ROW,
-    NO_ROW,
-    NO_ROW,
-    NO_ROW,
-    NO_ROW,
-];
+// Of B the row of its digit 0, in the same order. The other seven are worked out from it.
+const B: [i16; 8] = [1, 0, 1, 2, -1, 3, 1, 1];
 
 // The columns of a table.
 fn columns(table: [[i16; 8]; 16]) -> [i16; 128]
@@ -94,10 +78,35 @@ pub fn system_d() -> System
     System { count: 4, columns }
 }
 
-// The built-in system B (document 001, the maximal cover).
+// The built-in system B (document 001, the maximal cover), by its two laws (crates/symmetry): 0 to 2 to 4 by turning, 0 to 7 by reflecting, 7 to 1 to 3 to 5 by turning, 1 to 6 by reflecting. By
+// another way some interval comes out with the other sign at both ends: the same interval, and not document 01's numbers.
 pub fn system_b() -> System
     ensures { λ r. ⌜ r ≡ stored rowsB ⌝ }
 {
-    let columns = columns(B);
+    let b2 = symmetry::turn(B);
+    let b4 = symmetry::turn(b2);
+    let b7 = symmetry::reflect(B);
+    let b1 = symmetry::turn(b7);
+    let b3 = symmetry::turn(b1);
+    let b5 = symmetry::turn(b3);
+    let b6 = symmetry::reflect(b1);
+    let columns = columns([
+        B,
+        b1,
+        b2,
+        b3,
+        b4,
+        b5,
+        b6,
+        b7,
+        NO_ROW,
+        NO_ROW,
+        NO_ROW,
+        NO_ROW,
+        NO_ROW,
+        NO_ROW,
+        NO_ROW,
+        NO_ROW,
+    ]);
     System { count: 8, columns }
 }

@@ -3,7 +3,7 @@
 use Rattle.whole.proofs.Laws.{_≡_, refl, sym, subst, Bool, true, _&&_, List, [], _∷_, gcdBy, gcd, gcd4, first, both-true, unlessRefused, within?}
 use Rattle.plane.proofs.Laws.{apply, determinantOf, pseudoinverseOf, multiplyOf, imageOf, cancelOf}
 use Rattle.inclusion.proofs.Laws.{closed?, same?, included?}
-use Rattle.digits.proofs.Laws.{transformationBy, intervalBy, rowsIn, stored}
+use Rattle.digits.proofs.Laws.{transformationBy, intervalBy, rowsIn, rowsB, stored}
 use Rattle.expanding.proofs.Laws.{formOf, expands?}
 use Rattle.admission.proofs.Laws.{rowVerdict, rowsVerdict, admissionOf}
 use Rattle.runs.proofs.Laws.{follow, runBy, run, judgedRun}
@@ -35,7 +35,7 @@ passed (d ∷ ds) e c k =
 
 computed : allPass? table ≡ true
 unfolding gcdBy gcd gcd4 apply determinantOf pseudoinverseOf multiplyOf imageOf cancelOf closed? same? included? first within? rowVerdict rowsVerdict
-    formOf expands? admissionOf rowsIn stored state? openOf unlessRefused transformationBy intervalBy fittingOf follow runBy run refusalOf judgedRun courseOf runOf
+    formOf expands? admissionOf rowsIn rowsB stored state? openOf unlessRefused transformationBy intervalBy fittingOf follow runBy run refusalOf judgedRun courseOf runOf
     presence numberOf signed numbersIn readingOf readOf digitsBy decimal signedText heldText stateLine countsLine digitsLine answerText refusedText printed
 computed = refl
 
