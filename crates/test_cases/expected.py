@@ -25,6 +25,9 @@ def runs():
     case('D to B', d, b, opened(-7, 2, -3, -1), [3, 3, 1, 0, 2, 1], 8)
     case('R to B', r, b, opened(1, 0, 0, 1000), [2, 2, 3, 2, 3, 3], 8)
     case('D to R', d, r, opened(1, 2, -1, 3), [1, 2, 2, 0], 8)
+    # B seen through its own turn: each digit comes out two on, back, or half round, counting modulo 8, and the state is what it was.
+    for label, m in (('turned', (1, 1, -1, 1)), ('turned back', (1, -1, 1, 1)), ('turned half round', (0, -1, 1, 0))):
+        case(f'B to B, {label}', b, b, opened(*m), range(8), 8)
     for n in (40, 31, 30, 29, 28, 0):
         case(f'D to R, {n or "no"} digits', d, r, opened(3, -1, 0, 1), ([2, 0] * 20)[:n], 4)
     admitted('identities', i)

@@ -13,15 +13,7 @@ static void handed_out(system_call *call, struct system s, const char *what) {
     }
 }
 
-void built_in(void) {
-    handed_out(sled_system_r, R, "sled_system_r");
-    handed_out(sled_system_b, B, "sled_system_b");
-    handed_out(sled_system_d, D, "sled_system_d");
-    symmetric();
-    check(R.digits == SLED_R_DIGITS && B.digits == SLED_B_DIGITS && D.digits == SLED_D_DIGITS, "the header's counts of digits", 0);
-}
-
-/* ---- system B by its two laws: with R(x) = (x + 1)/(1 - x), digit a + 2 is digit a turned, counting modulo 8, and digit 7 - a is digit a reflected */
+/* system B by its two laws: with R(x) = (x + 1)/(1 - x), digit a + 2 is digit a turned, counting modulo 8, and digit 7 - a is digit a reflected */
 
 /* number j of digit a, as sled_system_b wrote it */
 static long of_b(int j, int a) { return now.in_columns[16 * j + a]; }
@@ -50,6 +42,14 @@ static void symmetric(void) {
         check(conjugated(turn, a, next) && same_end(turn, 4, a, 4, next) && same_end(turn, 6, a, 6, next), "B turned is B", a);
         check(conjugated(reflect, a, across) && same_end(reflect, 4, a, 6, across) && same_end(reflect, 6, a, 4, across), "B reflected is B", a);
     }
+}
+
+void built_in(void) {
+    handed_out(sled_system_r, R, "sled_system_r");
+    handed_out(sled_system_b, B, "sled_system_b");
+    handed_out(sled_system_d, D, "sled_system_d");
+    symmetric();
+    check(R.digits == SLED_R_DIGITS && B.digits == SLED_B_DIGITS && D.digits == SLED_D_DIGITS, "the header's counts of digits", 0);
 }
 
 /* ---- admission */

@@ -94,6 +94,14 @@ pub fn break_row(chance: &mut Chance, job: &mut Job) {
     break_a_row(chance, rows);
 }
 
+/// Rows of F and ends of W changed over in one row: both determinants have the wrong sign, and 7 is told.
+pub fn break_both_determinants(chance: &mut Chance, job: &mut Job) {
+    let rows = some_system(chance, job);
+    let place = chance.below(rows.len());
+    rows[place][..4].rotate_left(2);
+    rows[place][4..].rotate_left(2);
+}
+
 /// One row, or two of one system, breaks a rule for rows; perhaps two rules.
 fn break_a_row(chance: &mut Chance, rows: &mut [Row]) {
     for _ in 0..1 + chance.below(2) {

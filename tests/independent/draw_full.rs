@@ -14,6 +14,7 @@ pub fn full_output(chance: &mut Chance, turn: usize) -> Vec<u8> {
         // By turns and not by chance: that the room is asked for before the range shows only where both end at the same step, whatever the seed is.
         1 | 5 => room_and_range([939, 763, 939, 904][turn / 4 % 4]),
         2 => one_digit_for_ever(chance),
+        6 => just_full(turn / 8 % 4),
         _ => more_digits_out(chance),
     };
     layout(&job)
@@ -30,6 +31,11 @@ fn a_hundred_for_one(chance: &mut Chance) -> Job {
     }
     let matrix = if chance.once_in(4) { matrix(chance) } else { [1, 0, 0, 1] };
     Job { input: hundred_of(b), output: R.to_vec(), matrix, word }
+}
+
+/// Just as many digits as there is room for, and the last one is absorbed: a full output stops no run that needs no place. By turns too.
+fn just_full(b: usize) -> Job {
+    Job { input: hundred_of(b), output: R.to_vec(), matrix: [1, 0, 0, 1], word: [vec![4; 81], vec![b as u8; 92]].concat() }
 }
 
 /// Document 01's two digits that change nothing, of which one would fit for ever: now refused.

@@ -34,7 +34,7 @@ pub const KINDS: [Kind; 23] = [
     (2, "damaged: another count", |c, _| damaged_file(c, damage::change_count)),
     (1, "counts at their limits, with all that is counted", |c, _| damaged_job(c, damage::fill_to_limit)),
     (2, "damaged: each number of a job in turn, at a limit", number_in_turn),
-    (3, "damaged: a row", |c, _| damaged_job(c, damage::break_row)),
+    (3, "damaged: a row", |c, turn| damaged_job(c, if turn % 6 == 0 { damage::break_both_determinants } else { damage::break_row })),
     (2, "damaged: a cover", |c, _| damaged_job(c, damage::break_cover)),
     (4, "damaged: a row that does not expand", |c, _| damaged_job(c, damage::break_growth)),
     (1, "damaged: intervals by symmetry that are too short or too long", |c, _| off_symmetric(c)),

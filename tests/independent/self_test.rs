@@ -154,6 +154,7 @@ fn symmetry_of_b(tests: &mut Tests) {
     tests.push(("B reflected is B", (0..8).all(|a| same_digit(&reflected(&B[a]), &B[7 - a]))));
     tests.push(("at each point of a grid too, turned", (0..8).all(|a| carried(quarter, &B[a], &B[(a + 2) % 8]))));
     tests.push(("and reflected", (0..8).all(|a| carried(negative, &B[a], &B[7 - a]))));
+    tests.push(("a run through R gives each digit two on", prints(&job(&B, &B, [1, 1, -1, 1], &[0, 1, 2, 3, 4, 5, 6, 7]), "0 8 8\n1 1 -1 1 -\n2 3 4 5 6 7 0 1\n")));
     tests.push(("other intervals by symmetry are admitted in document 001's bounds", bounds_are_seen()));
 }
 

@@ -1,7 +1,7 @@
 -- What turning and reflecting say of points. A turned digit is the digit seen through R: cancelling changes no point, and R keeps what is inside. A reflected one is the digit
 -- seen through x ↦ −x, which turns the direction round: what was between the ends stays between them because the ends change over.
-use Rattle.whole.proofs.Laws.{_≡_, sym, _∙_, subst, List, up<, ℤ, pos, _*ℤ_, _<ℤ_, gcdBy, gcd, gcd4, gcd-divides-left, gcd-divides-right, quot-exact, ps-mul, _⊕_, _⊗_, ⊝_, #, _≗_, law}
-use Rattle.plane.proofs.Laws.{Pair, Point, SamePoint, Interval, SameEnds, Det, det, left, right, apply, multiplyOf, pseudoinverseOf, imageOf, cancelOf, scalePair, pair-equal, apply-multiply, cancel-says, interval-moves, left-point, right-point, inside-moves, inside-back, inside-ends, inside-ends-back, same-multiple, above-not-0}
+use Rattle.whole.proofs.Laws.{_≡_, sym, _∙_, ap₂, subst, List, up<, ℤ, pos, _*ℤ_, _<ℤ_, gcdBy, gcd, gcd4, gcd-divides-left, gcd-divides-right, quot-exact, ps-mul, _⊗_, ⊝_, #, _≗_, law}
+use Rattle.plane.proofs.Laws.{Pair, Point, SamePoint, Interval, SameEnds, Det, det, left, right, apply, multiplyOf, pseudoinverseOf, imageOf, cancelOf, scalePair, pair-equal, det-apply, determinantOf, apply-multiply, cancel-says, interval-moves, left-point, right-point, inside-moves, inside-back, inside-ends, inside-ends-back, same-multiple, above-not-0}
 use Rattle.symmetry.specs.Row.{transformationIn, intervalIn, Turnable}
 use Rattle.symmetry.specs.Symmetry.{lowest, divisorOfTwo, lowestEnds, rotation, mirror, turned, reflected}
 use Rattle.symmetry.specs.Says.{TurnedSays, ReflectedSays}
@@ -58,10 +58,10 @@ turned-says {r} t = record {
 
 -- det(−y, −z)·det(−z, −x) is det(x, z)·det(z, y): each factor changes its sign, and they change places
 between-mirrored : (x y z : Pair) → det (apply mirror y) (apply mirror z) *ℤ det (apply mirror z) (apply mirror x) ≡ det x z *ℤ det z y
-unfolding apply
-between-mirrored x y z = law 6 (λ a b c d e f.
-    Det (⊝ # 1 ⊗ c ⊕ # 0 ⊗ d) (# 0 ⊗ c ⊕ # 1 ⊗ d) (⊝ # 1 ⊗ e ⊕ # 0 ⊗ f) (# 0 ⊗ e ⊕ # 1 ⊗ f) ⊗ Det (⊝ # 1 ⊗ e ⊕ # 0 ⊗ f) (# 0 ⊗ e ⊕ # 1 ⊗ f) (⊝ # 1 ⊗ a ⊕ # 0 ⊗ b) (# 0 ⊗ a ⊕ # 1 ⊗ b)
-    ≗ Det a b e f ⊗ Det e f c d) tt (x .z0) (x .z1) (y .z0) (y .z1) (z .z0) (z .z1)
+unfolding determinantOf
+between-mirrored x y z =
+    ap₂ _*ℤ_ (det-apply mirror y z) (det-apply mirror z x) ∙
+    law 6 (λ a b c d e f. (⊝ # 1 ⊗ Det c d e f) ⊗ (⊝ # 1 ⊗ Det e f a b) ≗ Det a b e f ⊗ Det e f c d) tt (x .z0) (x .z1) (y .z0) (y .z1) (z .z0) (z .z1)
 
 pub reflected-says : (r : List ℤ) → ReflectedSays r
 unfolding reflected
