@@ -6,7 +6,7 @@ pub use Rattle.symmetry.proofs.SameDigits.{digit-refl, digit-sym, digit
 -- what the functions ask, of rows that are written out
 pub use Rattle.symmetry.proofs.Tested.{small?, turnable?, small-says, turnable-says}
 -- the definitions
-pub use Rattle.symmetry.specs.Row.{transformationIn, intervalIn, Small, Turnable}
+pub use Rattle.symmetry.specs.Row.{transformationIn, intervalIn, SmallRow, Turnable}
 pub use Rattle.symmetry.specs.Symmetry.{rotation, mirror}
 unfoldable pub use Rattle.symmetry.specs.Symmetry.{turned, reflected}
 pub use Rattle.symmetry.specs.Says.{TurnedSays, ReflectedSays, SameDigit}

@@ -21,12 +21,12 @@ joinedRow f w = at f 0 ∷ at f 1 ∷ at f 2 ∷ at f 3 ∷ at w 0 ∷ at w 1 �
 -- ---- what is asked of a row
 
 -- to reflect it: "every number lies in −100..100"
-pub record Small (r : List ℤ) : Type 0 where
+pub record SmallRow (r : List ℤ) : Type 0 where
   pub numbers-f : Within 100 (transformationIn r)
   pub numbers-w : Within 100 (intervalIn r)
 
 -- to turn it, besides: "det F > 0, det W < 0", so that neither F nor an end is 0, which nothing cancels
 pub record Turnable (r : List ℤ) : Type 0 where
-  pub small : Small r
+  pub small : SmallRow r
   pub above : DetAbove (transformationIn r)
   pub interval : Interval (intervalIn r)

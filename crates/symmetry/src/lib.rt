@@ -3,14 +3,15 @@
 ghost use mathlib.Core.Path.{_≡_};
 ghost use Rattle.whole.specs.Range.{Within};
 ghost use Rattle.plane.specs.Plane.{Interval, left, right, multiplyOf};
-ghost use Rattle.symmetry.specs.Row.{Small, Turnable};
+ghost use Rattle.symmetry.specs.Row.{SmallRow, Turnable};
 ghost use Rattle.symmetry.specs.Symmetry.{ends, lowestEnds, turned, reflected};
 
 mod row; // row.rt: a row taken apart, and put together
 
-// R(x) = (x + 1)/(1 − x), and its pseudoinverse.
+// R(x) = (x + 1)/(1 − x).
 const ROTATION: [i64; 4] = [1, 1, -1, 1];
 
+// R's pseudoinverse, which leads back.
 const BACK: [i64; 4] = [1, -1, 1, 1];
 
 // x ↦ −x, which undoes itself.
@@ -53,7 +54,7 @@ pub fn turn(row: [i16; 8]) -> [i16; 8]
 
 // "F of 7−a at x is −F_a(−x)", and the interval by the same law, so that its right end becomes the left one.
 pub fn reflect(row: [i16; 8]) -> [i16; 8]
-    requires { ⌜ Small row ⌝ }
+    requires { ⌜ SmallRow row ⌝ }
     ensures { λ r. ⌜ r ≡ reflected row ⌝ }
 {
     let f = product_of_three(MIRROR, row::four(row, 0), MIRROR);

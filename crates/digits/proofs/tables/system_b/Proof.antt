@@ -1,7 +1,7 @@
 -- `digits::tables::system_b` meets its contract. Each row is what `turn` or `reflect` ensures of the one before it on the way; what they ask, and the columns, by computation.
 use Rattle.whole.proofs.Laws.{needs, _≡_, refl, sym, _∙_, ap, subst, true, List, _∷_, replicate, pos, ℤ, within?}
 use Rattle.plane.proofs.Laws.{determinantOf}
-use Rattle.symmetry.proofs.Laws.{Turnable, Small, turnable?, turnable-says, small-says, turned, reflected}
+use Rattle.symmetry.proofs.Laws.{Turnable, SmallRow, turnable?, turnable-says, small-says, turned, reflected}
 use Rattle.digits.specs.BuiltIn.{row, rowB0, rowsB, stored, tableColumns}
 use Rattle.digits.proofs.tables.system_b.Statement.{statement}
 use Rattle.digits.proofs.tables.system_b.Tie as tie
@@ -44,4 +44,4 @@ unfolding turned reflected within? determinantOf
 system-b-spec = tie.close (tie.spec
     (λ c κs. turnable-says _ refl) (λ c κs. turnable (c .turn .ensures) refl) (λ c κs. search needs)
     (λ c κs. turnable (c .reflect .ensures) refl) (λ c κs. turnable (is1 c) refl) (λ c κs. turnable (is3 c) refl)
-    (λ c κs. subst Small (sym (is1 (c .before .before))) (small-says _ refl)) (λ c κs. search needs) returns)
+    (λ c κs. subst SmallRow (sym (is1 (c .before .before))) (small-says _ refl)) (λ c κs. search needs) returns)
