@@ -1,5 +1,5 @@
--- What makes system B: row 0 and two laws. Nobody has to believe the table below: `b-by-symmetry` (proofs/SystemB.antt) proves that `rowsB`, which is worked out
--- from row 0, is this table, that all sixteen laws hold of it, and that no other system has row 0 and the laws.
+-- What makes system B: row 0 and two laws. Nobody has to believe the table below. `b-by-symmetry` (proofs/SystemB.antt) proves that `rowsB`, which is worked
+-- out from row 0, is this table, that all sixteen laws hold of it, and that no other system has row 0 and the laws.
 use mathlib.Core.Path.{_≡_}
 use mathlib.Core.List.{List, [], _∷_}
 use Prim.Native.Nat.{ℕ, _+_, _-_, _%_, _<_}
@@ -33,4 +33,5 @@ pub record Symmetric (rows : List (List ℤ)) : Type 0 where
 pub record BySymmetry : Type 0 where
   pub stays : rowsB ≡ printedB
   pub symmetric : Symmetric rowsB
-  pub no-other : (rows : List (List ℤ)) → SameDigit (rowAt rowsB 0) (rowAt rows 0) → Symmetric rows → (a : ℕ) → a < 8 → SameDigit (rowAt rowsB a) (rowAt rows a)
+  pub no-other : (rows : List (List ℤ)) → SameDigit (rowAt rowsB 0) (rowAt rows 0) → Symmetric rows →
+      (a : ℕ) → a < 8 → SameDigit (rowAt rowsB a) (rowAt rows a)
