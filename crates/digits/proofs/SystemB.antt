@@ -28,10 +28,10 @@ stays = refl
 symmetric : Symmetric rowsB
 unfolding rowsB scalePair
 symmetric = record {
-  turns = below (λ a. SameDigit (turned (rowAt rowsB a)) (rowAt rowsB ((a + 2) % 8))) 8 (
+  turns = below _ 8 (
       digit-refl _ ⨾ digit-refl _ ⨾ digit-refl _ ⨾ digit-refl _ ⨾ digit-signs refl refl refl ⨾ digit-signs refl refl refl ⨾ digit-refl _ ⨾ digit-refl _ ⨾ tt
       );
-  reflects = below (λ a. SameDigit (reflected (rowAt rowsB a)) (rowAt rowsB (7 - a))) 8 (
+  reflects = below _ 8 (
       digit-refl _ ⨾ digit-refl _ ⨾ digit-signs refl refl refl ⨾ digit-signs refl refl refl ⨾ digit-signs refl refl refl ⨾ digit-signs refl refl refl ⨾ digit-refl _ ⨾ digit-refl _ ⨾ tt
       );
 }
