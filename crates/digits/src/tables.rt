@@ -1,4 +1,4 @@
-// The three systems that are built in: their tables, in rows as document 01 prints them, and how a table becomes columns.
+// The three systems that are built in: R and D by their tables, in rows as document 01 prints them, B by its row 0; and how a table becomes columns.
 ghost use mathlib.Core.Path.{_≡_};
 ghost use Rattle.digits.specs.BuiltIn.{stored, rowsR, rowsB, rowsD, tableColumns};
 use crate::System;
