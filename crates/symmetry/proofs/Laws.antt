@@ -2,7 +2,7 @@
 -- what turning and reflecting say of points
 pub use Rattle.symmetry.proofs.SymmetrySays.{turned-says, reflected-says}
 -- rows of one and the same digit
-pub use Rattle.symmetry.proofs.SameDigits.{digit-refl, digit-sym, digit-trans, digit-signs, digit-turned, digit-reflected}
+pub use Rattle.symmetry.proofs.SameDigits.{digit-refl, digit-sym, digit-trans, digit-signs, digit-turned, digit-reflected, digit-inside}
 -- what the functions ask, of rows that are written out
 pub use Rattle.symmetry.proofs.Tested.{small?, turnable?, small-says, turnable-says}
 -- the definitions

@@ -1,7 +1,7 @@
 -- How large the numbers get where a row is turned or reflected, and that there is something to cancel: each product with R or with the mirror doubles the bound.
 use Rattle.whole.proofs.Laws.{_≡_, refl, List, [], _∷_, ℕ, zero, suc, _<_, arith, ltZ-yes, ℤ, pos, Within, within?, within-says, near-quot, gcd4, gcd4-zero, back}
 use Rattle.plane.proofs.Laws.{Pair, Point, DetAbove, multiplyOf, pseudoinverseOf, determinantOf, multiply-within, det-above-multiply, det-above-pseudoinverse}
-use Rattle.symmetry.specs.Symmetry.{lowest, lowestEnds, rotation, mirror}
+use Rattle.symmetry.specs.Symmetry.{lowest, lowestEnds, rotation, conjugated, mirror}
 
 -- ---- R and the mirror
 
@@ -40,10 +40,6 @@ point-divisor {z} p = above (gcd4 (alone (z .z0) (z .z1))) refl
     above (suc g) e = omega arith
 
 -- ---- products
-
--- R F R inverse
-abbrev pub conjugated : List ℤ → List ℤ
-conjugated f = multiplyOf (multiplyOf rotation f) (pseudoinverseOf rotation)
 
 pub conjugated-above : {f : List ℤ} → DetAbove f → DetAbove (conjugated f)
 conjugated-above k = det-above-multiply (det-above-multiply rotation-above k) (det-above-pseudoinverse rotation-above)

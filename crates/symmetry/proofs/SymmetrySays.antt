@@ -3,9 +3,9 @@
 use Rattle.whole.proofs.Laws.{_≡_, sym, _∙_, ap₂, subst, List, up<, ℤ, pos, _*ℤ_, _<ℤ_, gcdBy, gcd, gcd4, gcd-divides-left, gcd-divides-right, quot-exact, ps-mul, _⊗_, ⊝_, #, _≗_, law}
 use Rattle.plane.proofs.Laws.{Pair, Point, SamePoint, Interval, SameEnds, Det, det, left, right, apply, multiplyOf, pseudoinverseOf, imageOf, cancelOf, scalePair, pair-equal, det-apply, determinantOf, apply-multiply, cancel-says, interval-moves, left-point, right-point, inside-moves, inside-back, inside-ends, inside-ends-back, same-multiple, above-not-0}
 use Rattle.symmetry.specs.Row.{transformationIn, intervalIn, Turnable}
-use Rattle.symmetry.specs.Symmetry.{lowest, divisorOfTwo, lowestEnds, rotation, mirror, turned, reflected}
+use Rattle.symmetry.specs.Symmetry.{lowest, divisorOfTwo, lowestEnds, rotation, conjugated, mirror, turned, reflected}
 use Rattle.symmetry.specs.Says.{TurnedSays, ReflectedSays}
-use Rattle.symmetry.proofs.Sizes.{conjugated, conjugated-above, rotation-above, point-divisor}
+use Rattle.symmetry.proofs.Sizes.{conjugated-above, rotation-above, point-divisor}
 
 -- ---- lowest terms
 

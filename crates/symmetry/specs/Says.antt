@@ -18,7 +18,8 @@ pub record ReflectedSays (r : List ℤ) : Type 0 where
   pub transformation : (z : Pair) → apply (transformationIn (reflected r)) z ≡ apply mirror (apply (transformationIn r) (apply mirror z))
   pub inside : (z : Pair) → Inside (intervalIn r) z ↔ Inside (intervalIn (reflected r)) (apply mirror z)
 
--- two rows of one and the same digit: the same transformation, number for number, and the same ends, as points
+-- two rows of one and the same digit: the same transformation, number for number, and the same ends, as points. Of rows with det W < 0 the same points are then
+-- inside (`digit-inside`, proofs/SameDigits.antt)
 pub record SameDigit (r s : List ℤ) : Type 0 where
   pub transformation : transformationIn r ≡ transformationIn s
   pub lefts : SamePoint (left (intervalIn r)) (left (intervalIn s))

@@ -31,12 +31,14 @@ rotation = pos 1 ∷ pos 1 ∷ negℤ (pos 1) ∷ pos 1 ∷ []
 abbrev pub mirror : List ℤ
 mirror = negℤ (pos 1) ∷ pos 0 ∷ pos 0 ∷ pos 1 ∷ []
 
--- "F of a+2 is R F_a R inverse": the pseudoinverse is a multiple of R inverse, and cancelling takes it away. Its interval goes from R(x) to R(y)
+-- "R F_a R inverse": the pseudoinverse is a multiple of R inverse, which cancelling takes away
+abbrev pub conjugated : List ℤ → List ℤ
+conjugated f = multiplyOf (multiplyOf rotation f) (pseudoinverseOf rotation)
+
+-- "F of a+2 is R F_a R inverse"; its interval goes from R(x) to R(y), each in lowest terms
 unfoldable pub turned : List ℤ → List ℤ
 unfolding gcdBy gcd4 apply multiplyOf pseudoinverseOf imageOf cancelOf lowestEnds
-turned r = joinedRow
-    (cancelOf (multiplyOf (multiplyOf rotation (transformationIn r)) (pseudoinverseOf rotation)))
-    (lowestEnds (imageOf rotation (intervalIn r)))
+turned r = joinedRow (cancelOf (conjugated (transformationIn r))) (lowestEnds (imageOf rotation (intervalIn r)))
 
 -- "F of 7−a at x is −F_a(−x)"; its interval goes from −y to −x
 unfoldable pub reflected : List ℤ → List ℤ

@@ -2,8 +2,8 @@
 use Rattle.whole.proofs.Laws.{needs, _≡_, refl, sym, _∙_, ap, ap₂, subst, List, ℤ, _<_, Within, within?, within-says, gcd4, within-le}
 use Rattle.plane.proofs.Laws.{imageOf, pseudoinverseOf, cancelOf, image-within, interval-moves, cancel-within, divisor-above}
 use Rattle.symmetry.specs.Row.{transformationIn, intervalIn, joinedRow}
-use Rattle.symmetry.specs.Symmetry.{lowestEnds, rotation, turned}
-use Rattle.symmetry.proofs.Sizes.{conjugated, conjugated-above, rotation-within, back-within, rotation-above, three-within, lowest-within}
+use Rattle.symmetry.specs.Symmetry.{lowestEnds, rotation, conjugated, turned}
+use Rattle.symmetry.proofs.Sizes.{conjugated-above, rotation-within, back-within, rotation-above, three-within, lowest-within}
 use Rattle.symmetry.proofs.turn.Statement.{statement}
 use Rattle.symmetry.proofs.turn.Tie as tie
 
