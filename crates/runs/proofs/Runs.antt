@@ -1,12 +1,12 @@
 -- What holds of every run of a lawful machine. The list of its steps, `Runs`, and what is worked out, `run`, agree: it ends, and has one answer (`runs`, `only`). It
 -- took the first bytes that were there and wrote no more than there was room for (`paid`); what each step keeps, it keeps (`keeps`); its steps are as many as the bytes
--- taken and the digits written allow (`few-steps`); stopped, it stops again (`stops-again`); it may be cut anywhere (`cut-anywhere`); and two machines that make the
--- same steps make the same runs (`same-runs`). Each is an induction over the steps.
-use Rattle.whole.proofs.Laws.{_≡_, refl, sym, ap, subst, _∙_, ℕ, zero, suc, _+_, _≤_, _<_, add-zero, arith, length, length-append}
+-- taken and the digits written allow (`few-steps`); stopped, it stops again (`stops-again`); it may be cut anywhere (`cut-anywhere`); a list that did not fill
+-- could be any longer one (`same-longer`); and two machines that make the same steps make the same runs (`same-runs`). Each is an induction over the steps.
+use Rattle.whole.proofs.Laws.{_≡_, refl, sym, ap, subst, _∙_, [], append-nil, ℕ, zero, suc, _+_, _≤_, _<_, add-zero, arith, length, length-append}
 use Rattle.runs.specs.Supply.{Supply, Deed, nothing, andThen, spend}
 use Rattle.runs.specs.Machine.{Outcome, goes, halts, Machine, mostSteps}
 use Rattle.runs.specs.Run.{Course, stopped, behind, followedBy, Runs, stops, makes, after, runBy, run}
-use Rattle.runs.specs.Asked.{Pays, join, cost, Going, Does, Lawful, Same, Steady}
+use Rattle.runs.specs.Asked.{Pays, join, longer, cost, Going, Does, Lawful, Same, Steady}
 use Rattle.runs.proofs.Spending.{nothing-pays, spend-nothing, pays-both, spend-both, spend-join, cost-both, and-nothing, and-then}
 
 pub behind-nothing : {State Stop : Type 0} (q : Course State Stop) → behind nothing 0 q ≡ q
@@ -98,6 +98,29 @@ module _ {State Stop : Type 0} {m : Machine State Stop} (lawful : Lawful m) wher
         run m s (join r more) ≡ followedBy q (run m (q .state) (join (spend (q .did) r) more))
     cut-anywhere s r u = only (goes-on (runs s r) u (runs (run m s r .state) (join (spend (run m s r .did) r) more)))
 
+-- where a run never can tell
+abbrev pub Always : {State : Type 0} → State → Supply → Type 0
+Always s r = Unit {0}
+
+-- ---- a run that stops by a word which it would stop by before a longer list too is the same before any longer list
+
+longer-join : (k : ℕ) (r : Supply) → join r (record { x = []; y = []; room = 0; list = k }) ≡ longer k r
+longer-join k r = λ i. record { x = append-nil (r .x) i; y = append-nil (r .y) i; room = add-zero (r .room) i; list = r .list + k }
+
+pub same-longer : {State Stop : Type 0} {m : Machine State Stop} → Lawful m → (k : ℕ) → Steady m (record { x = []; y = []; room = 0; list = k }) Always → (P : Stop → Type 0) →
+    ((s : State) (r : Supply) (e : Stop) → m .step s r ≡ halts e → P e → m .step s (longer k r) ≡ halts e) →
+    (s : State) (r : Supply) → P (run m s r .stop) → run m s (longer k r) ≡ run m s r
+same-longer {State} {Stop} {m} lawful k steady P halted s r h = only lawful (subst (λ (a : Supply). Runs m s a (run m s r)) (longer-join k r) (by (runs lawful s r) h))
+  where
+    more : Supply
+    more = record { x = []; y = []; room = 0; list = k }
+
+    by : {s : State} {r : Supply} {q : Course State Stop} → Runs m s r q → P (q .stop) → Runs m s (join r more) q
+    by {s} {r} (stops e p) h = stops e (ap (m .step s) (longer-join k r) ∙ halted s r e p h)
+    by {s} {r} (makes {q = q} t d p g) h =
+        let same : Same m more Always s r t d = subst (Going (Same m more Always s r)) p (steady .each s r tt) in
+        makes {q = q} t d (same .same-outcome) (rw (spend-join more (does lawful s t r d p .pays)) (by g h))
+
 -- ---- two machines that make the same steps wherever P holds, which each step keeps
 
 pub same-runs : {State Stop : Type 0} {m n : Machine State Stop} → Lawful m → Lawful n → (P : State → Type 0) →
@@ -107,7 +130,3 @@ same-runs {State} {Stop} {m} {n} lawful lawful′ P same s r h = sym (only lawfu
     by : {s : State} {r : Supply} {q : Course State Stop} → Runs m s r q → P s → Runs n s r q
     by {s} {r} (stops e p) h = stops e (sym (same s r h .0) ∙ p)
     by {s} {r} (makes t d p g) h = let k = same s r h in makes t d (sym (k .0) ∙ p) (by g (subst (Going (λ t d. P t)) p (k .1)))
-
--- where a run never can tell
-abbrev pub Always : {State : Type 0} → State → Supply → Type 0
-Always s r = Unit {0}

@@ -20,6 +20,10 @@ pub record Pays (d : Deed) (r : Supply) : Type 0 where
 abbrev pub join : Supply → Supply → Supply
 join r more = record { x = r .x ++ more .x; y = r .y ++ more .y; room = r .room + more .room; list = r .list + more .list }
 
+-- the same before so many places more for divisors
+abbrev pub longer : ℕ → Supply → Supply
+longer k r = record { x = r .x; y = r .y; room = r .room; list = r .list + k }
+
 -- two for each byte taken, one for each digit given out
 abbrev pub cost : Deed → ℕ
 cost d = 2 * length (d .x) + 2 * length (d .y) + length (d .digits)

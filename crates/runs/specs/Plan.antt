@@ -28,6 +28,10 @@ gave g = record { x = []; y = []; digits = g ∷ []; divisors = [] }
 abbrev pub listed : ℕ → Deed
 listed g = record { x = []; y = []; digits = []; divisors = g ∷ [] }
 
+-- a digit written, and the divisor of its step listed
+abbrev pub gaveBy : ℕ → ℕ → Deed
+gaveBy b g = record { x = []; y = []; digits = b ∷ []; divisors = g ∷ [] }
+
 module _ {State Stop : Type 0} where
   -- a deed, and then what an outcome does; nothing where it halts
   abbrev pub first : Deed → Outcome State Stop → Outcome State Stop
