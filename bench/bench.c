@@ -1,5 +1,6 @@
 /* Times the proved library against plain C of the same algorithm (bench/plain.c), both compiled by one compiler into one program, by turns in one run. The best of many
-   rounds counts on either side. Before a case is timed, both sides run it and their answers are compared. bench/run builds, runs and keeps the table. */
+   rounds counts on either side. Behind its last round a case's answers are compared: the counts, the digits, the divisors and how often a session was opened again. bench/run
+   builds, runs and keeps the table. */
 #include "plain.h"
 #include "sledhillock.h"
 
@@ -11,12 +12,12 @@ struct timespec {
 };
 int clock_gettime(int clock, struct timespec *t);
 
-typedef u32 run_call(usize, const i16 *, usize, usize, const i16 *, usize, i64 *, usize, const u8 *, usize, u8 *, usize, usize *, usize);
+typedef u32 run_call(usize, const i16 *, usize, usize, const i16 *, usize, i64 *, usize, const u8 *, usize, u8 *, usize, u64 *, usize, usize *, usize);
 typedef u32 admit_call(usize, const i16 *, usize);
 
 static u32 proved_run(usize ins, const i16 *in_columns, usize n, usize outs, const i16 *out_columns, usize m, i64 *state, usize s, const u8 *input, usize length, u8 *output,
-                      usize room, usize *counts, usize c) {
-    return sled_run(ins, in_columns, n, outs, out_columns, m, (int64_t *)state, s, input, length, output, room, counts, c);
+                      usize room, u64 *divisors, usize places, usize *counts, usize c) {
+    return sled_run(ins, in_columns, n, outs, out_columns, m, (int64_t *)state, s, input, length, output, room, (uint64_t *)divisors, places, counts, c);
 }
 
 static double now(void) {
@@ -76,8 +77,10 @@ static struct system random_16(void) {
 
 /* ---- cases */
 
-enum { LONG = 20000, ROOM = 64 * LONG };
+/* a step that lists a divisor writes a digit or absorbs one that was taken: so a list of LISTED places is never full */
+enum { LONG = 20000, ROOM = 64 * LONG, LISTED = LONG + ROOM };
 static u8 word[LONG], output[2][ROOM];
+static u64 divisors[2][LISTED];
 
 struct job {
     const struct system *ins, *outs;
@@ -85,16 +88,18 @@ struct job {
     usize length, calls; /* digits a call, and calls a round */
 };
 
-/* One round: the word, so many digits a call. Where the state leaves its range the session is opened again. Answers the digits taken and written, and a sum of the ends. */
-static void round_of(run_call *run, const struct job *j, u8 *out, usize *counts, usize *stops) {
+/* One round: the word, so many digits a call. Where the state leaves its range the session is opened again. Answers the digits taken and written and the divisors listed, and
+   a sum of the ends. */
+static void round_of(run_call *run, const struct job *j, u8 *out, u64 *list, usize *counts, usize *stops) {
     i64 state[5] = {j->matrix[0], j->matrix[1], j->matrix[2], j->matrix[3], -1};
-    usize taken = 0, written = 0, ends = 0;
+    usize taken = 0, written = 0, listed = 0, ends = 0;
     for (usize k = 0; k < j->calls; k++) {
-        usize c[2], give = j->length * (k + 1) - taken;
+        usize c[SLED_COUNTS], give = j->length * (k + 1) - taken;
         u32 end = run(j->ins->digits, j->ins->columns, SLED_COLUMNS, j->outs->digits, j->outs->columns, SLED_COLUMNS, state, 5, word + taken, give, out + written,
-                      ROOM - written, c, 2);
+                      ROOM - written, list + listed, LISTED - listed, c, SLED_COUNTS);
         taken += c[0];
         written += c[1];
+        listed += c[2];
         if (end == 22) {
             ends++;
             for (int i = 0; i < 4; i++) state[i] = j->matrix[i];
@@ -105,8 +110,7 @@ static void round_of(run_call *run, const struct job *j, u8 *out, usize *counts,
             break;
         }
     }
-    counts[0] = taken;
-    counts[1] = written;
+    counts[0] = taken, counts[1] = written, counts[2] = listed;
     *stops = ends;
 }
 
@@ -123,18 +127,24 @@ static void report(const char *name, double plain, double proved, double digits,
     printf("| %s | %.1f | %.1f | %s | %.2f |\n", name, digits / plain, digits / proved, unit, plain / proved);
 }
 
+/* whether both sides counted, stopped, wrote and listed the same */
+static int same(usize counts[2][SLED_COUNTS], const usize *stops) {
+    return memcmp(counts[0], counts[1], sizeof counts[0]) == 0 && stops[0] == stops[1] && memcmp(output[0], output[1], counts[0][1]) == 0 &&
+           memcmp(divisors[0], divisors[1], counts[0][2] * sizeof **divisors) == 0;
+}
+
 static void time_run(const char *name, const struct job *j, int rounds) {
     run_call *calls[2] = {plain_run, proved_run};
-    usize counts[2][2], stops[2];
+    usize counts[2][SLED_COUNTS], stops[2];
     double best[2] = {1e9, 1e9};
     for (int r = 0; r < rounds; r++)
         for (int side = 0; side < 2; side++) {
             double start = now();
-            round_of(calls[side], j, output[side], counts[side], &stops[side]);
+            round_of(calls[side], j, output[side], divisors[side], counts[side], &stops[side]);
             double time = now() - start;
             if (time < best[side]) best[side] = time;
         }
-    if (counts[0][0] != counts[1][0] || counts[0][1] != counts[1][1] || stops[0] != stops[1] || memcmp(output[0], output[1], counts[0][1]) != 0) {
+    if (!same(counts, stops)) {
         printf("%s: the two sides answer differently\n", name);
         wrong = 1;
     }
@@ -176,13 +186,13 @@ static void word_of(const struct system *s) {
     static u8 source[LONG];
     const i64 one[5] = {1, 0, 0, 1, -1};
     i64 state[5];
-    usize counts[2], filled = 0;
+    usize counts[SLED_COUNTS], filled = 0;
     for (usize k = 0; k < LONG; k++) source[k] = (u8)any(2);
     memcpy(state, one, sizeof one);
     usize from = 0;
     while (filled < LONG && from < LONG) {
-        u32 end = plain_run(R.digits, R.columns, SLED_COLUMNS, s->digits, s->columns, SLED_COLUMNS, state, 5, source + from, LONG - from, word + filled, LONG - filled, counts,
-                            2);
+        u32 end = plain_run(R.digits, R.columns, SLED_COLUMNS, s->digits, s->columns, SLED_COLUMNS, state, 5, source + from, LONG - from, word + filled, LONG - filled,
+                            divisors[0], LISTED, counts, SLED_COUNTS);
         from += counts[0];
         filled += counts[1];
         if (end == 22) memcpy(state, one, sizeof one);

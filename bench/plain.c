@@ -124,10 +124,12 @@ static inline void absorb(i64 *z, const i64 *x, const i16 *f) {
     z[3] = x[2] * f[B] + x[3] * f[D];
 }
 
-static inline void cancel(i64 *m) {
+/* answers the divisor */
+static inline u64 cancel(i64 *m) {
     u64 g = gcd_of_4(m[0], m[1], m[2], m[3]);
     if (g != 1)
         for (int k = 0; k < 4; k++) m[k] /= (i64)g;
+    return g;
 }
 
 #define RANGE 1000000000
@@ -142,14 +144,12 @@ static u32 run_number(usize ins, const i16 *in_columns, usize outs, const i16 *o
     return 0;
 }
 
-u32 plain_run(usize ins, const i16 *in_columns, usize in_length, usize outs, const i16 *out_columns, usize out_length, i64 *state, usize state_length,
-              const u8 *input, usize n, u8 *output, usize room, usize *counts, usize counts_length) {
-    if (in_length != COLUMNS || out_length != COLUMNS || state_length != 5 || counts_length != 2) return 40;
-    counts[0] = counts[1] = 0;
-    u32 end = run_number(ins, in_columns, outs, out_columns, state);
-    if (end != 0) return end;
-    i64 x[4] = {state[0], state[1], state[2], state[3]}, z[4], held = state[4];
-    usize i = 0, o = 0;
+/* The steps, until one stops. The state x is a copy that is lent to nobody else, so that no write to the output or the list can change it, and it may stay in registers. */
+static inline u32 steps(usize ins, const i16 *in_columns, usize outs, const i16 *out_columns, i64 *x, const u8 *input, usize n, u8 *output, usize room,
+                        u64 *divisors, usize places, usize *counts) {
+    i64 z[4], held = x[4];
+    usize i = 0, o = 0, l = 0;
+    u32 end;
     for (;;) {
         if (held < 0) {
             end = 0;
@@ -159,25 +159,38 @@ u32 plain_run(usize ins, const i16 *in_columns, usize in_length, usize outs, con
             held = input[i++];
         }
         usize b = fitting(x, in_columns + held, outs, out_columns);
-        if (b < outs) {
-            end = 20;
-            if (o == room) break;
+        end = 20;
+        if (b < outs && o == room) break;
+        end = 15;
+        if (l == places) break;
+        if (b < outs)
             give_out(z, x, out_columns + b);
-        } else {
+        else
             absorb(z, x, in_columns + held);
-        }
-        cancel(z);
+        u64 divisor = cancel(z);
         end = 22;
         if (!within(z[0], z[1], z[2], z[3], RANGE)) break;
         for (int k = 0; k < 4; k++) x[k] = z[k];
+        divisors[l++] = divisor;
         if (b < outs)
             output[o++] = (u8)b;
         else
             held = -1;
     }
-    for (int k = 0; k < 4; k++) state[k] = x[k];
-    state[4] = held;
-    counts[0] = i;
-    counts[1] = o;
+    x[4] = held;
+    counts[0] = i, counts[1] = o, counts[2] = l;
+    return end;
+}
+
+u32 plain_run(usize ins, const i16 *in_columns, usize in_length, usize outs, const i16 *out_columns, usize out_length, i64 *state, usize state_length,
+              const u8 *input, usize n, u8 *output, usize room, u64 *divisors, usize places, usize *counts, usize counts_length) {
+    if (in_length != COLUMNS || out_length != COLUMNS || state_length != 5 || counts_length != 3) return 40;
+    counts[0] = counts[1] = counts[2] = 0;
+    u32 number = run_number(ins, in_columns, outs, out_columns, state);
+    if (number != 0) return number;
+    i64 x[5];
+    for (int k = 0; k < 5; k++) x[k] = state[k];
+    u32 end = steps(ins, in_columns, outs, out_columns, x, input, n, output, room, divisors, places, counts);
+    for (int k = 0; k < 5; k++) state[k] = x[k];
     return end;
 }

@@ -8,4 +8,4 @@ typedef unsigned long usize;
 
 u32 plain_admit(usize digits, const i16 *columns, usize length);
 u32 plain_run(usize ins, const i16 *in_columns, usize in_length, usize outs, const i16 *out_columns, usize out_length, i64 *state, usize state_length,
-              const u8 *input, usize n, u8 *output, usize room, usize *counts, usize counts_length);
+              const u8 *input, usize n, u8 *output, usize room, u64 *divisors, usize places, usize *counts, usize counts_length);

@@ -8,8 +8,10 @@
      1. Have two digit systems, one for the input and one for the output: a built-in one (sled_system_r, sled_system_b, sled_system_d), those of a job file (sled_read),
         or one of your own, which you write by rows and which sled_columns turns into columns.
      2. Open a session for a matrix a b c d: sled_open writes a state of five numbers. They are all that is kept between calls; keep them wherever you like.
-     3. Call sled_run with some input bytes, one digit a byte, and some room for output, as often as you like. It says how many bytes it took and how many digits it
-        wrote. Cut the word and the room as you like: hand what a call did not take and did not fill on to the next, with more, and the digits are those of one call.
+     3. Call sled_run with some input bytes, one digit a byte, some room for output and a list for what is cancelled, as often as you like. It says how many bytes it took,
+        how many digits it wrote and how many numbers it listed. Cut the word, the room and the list as you like: hand what a call did not take and did not fill on to the
+        next, with more, and the digits and the list are those of one call. If you do not care what is cancelled, lend a list with one place more than input and output have
+        together: it is never full, and you need not look at it.
 
    WHAT IS PROMISED OF EVERY CALL
 
@@ -56,6 +58,19 @@
      sled_open and sled_run write keep them.
 
      A DIGIT is one byte: 0, 1, 2 and so on, not '0', '1', '2'.
+
+     A DIVISOR is what was cancelled. To give a digit out, a run multiplies the state's matrix from the left by d -b -c a of that digit; to absorb the held digit, from the
+     right by a b c d of that one. Then it divides the product by the greatest common divisor of its four entries. That number is listed, and 1 is listed too: one number for
+     each digit given out and one for each digit absorbed, in the order in which this was done. Each is in 1..200000000000. What they are for: open a session and run it by as
+     many calls as you like, always with the same two systems. At every moment, with
+
+         L   the product of all divisors listed so far, of all calls
+         G   the product of the matrices a b c d of all digits written so far, in their order, and E the product of their a d - b c
+         X   the state's matrix
+         M   the opened matrix: the one handed to sled_open, divided by the greatest common divisor of its entries
+         A   the product of the matrices of all digits absorbed so far, in their order: of all that were taken, but for the held one
+
+     L times (G X) is E times (M A), number for number: so G X is M A times E / L.
 */
 #ifndef SLEDHILLOCK_H
 #define SLEDHILLOCK_H
@@ -73,6 +88,7 @@ typedef __UINT8_TYPE__ uint8_t;
 typedef __INT16_TYPE__ int16_t;
 typedef __INT64_TYPE__ int64_t;
 typedef __UINT32_TYPE__ uint32_t;
+typedef __UINT64_TYPE__ uint64_t;
 typedef __SIZE_TYPE__ size_t;
 #endif
 
@@ -85,6 +101,7 @@ enum sled_number {
     SLED_OK = 0,                /* admitted, opened or written; of a run: all the input was taken, nothing is held, and no digit more can be given out */
 
     /* a run stopped: sled_run says how to go on, if one can */
+    SLED_END_LIST_FULL = 15,    /* the next digit is certain and has room, or the held one is to be absorbed, and the list is full */
     SLED_END_NO_ROOM = 20,      /* the next digit is certain, and the output is full */
     SLED_END_NOT_A_DIGIT = 21,  /* the next byte is no digit of the input system; it was not taken */
     SLED_END_RANGE_LEFT = 22,   /* the next state has an entry outside -1000000000..1000000000; it was not entered */
@@ -111,7 +128,7 @@ enum sled_number {
 };
 
 /* How many numbers stand in a state, in a matrix, in the row of one digit, in the columns of a system, in the counts of a run and in what sled_read found. */
-enum { SLED_STATE = 5, SLED_MATRIX = 4, SLED_ROW = 8, SLED_COLUMNS = 128, SLED_COUNTS = 2, SLED_FOUND = 4 };
+enum { SLED_STATE = 5, SLED_MATRIX = 4, SLED_ROW = 8, SLED_COLUMNS = 128, SLED_COUNTS = 3, SLED_FOUND = 4 };
 
 /* How many digits the built-in systems have. */
 enum { SLED_R_DIGITS = 4, SLED_B_DIGITS = 8, SLED_D_DIGITS = 4 };
@@ -166,23 +183,30 @@ uint32_t sled_read(const uint8_t *file, size_t file_length, int16_t *in_columns,
    -1. Or answers SLED_REFUSED_LENGTH, SLED_REFUSED_RANGE or SLED_REFUSED_MATRIX, the first that applies, and writes nothing. */
 uint32_t sled_open(const int64_t *matrix, size_t matrix_length, int64_t *state, size_t state_length);
 
-/* Takes bytes of the input and writes digits to the output until it has to stop, and answers why:
+/* Takes bytes of the input, writes digits to the output and lists what it cancelled until it has to stop, and answers why:
 
-     SLED_OK, SLED_END_..   counts[0] is how many bytes were taken, counts[1] how many digits were written, from the start of the output on; the state is the new one. The
-                            bytes of the output behind the written ones are unchanged. To go on after SLED_OK or SLED_END_NO_ROOM, call again with this state, the input
-                            from the first byte that was not taken, and new room. After SLED_END_NOT_A_DIGIT pass over or mend the byte first. After
-                            SLED_END_RANGE_LEFT the session is over: whatever input and room a call from this state is given, it takes nothing, writes nothing, leaves
-                            the state and answers SLED_END_RANGE_LEFT again; or SLED_END_NO_ROOM, if output_length is 0 and a digit could be given out.
+     SLED_OK, SLED_END_..   counts[0] is how many bytes were taken, counts[1] how many digits were written, from the start of the output on, and counts[2] how many divisors
+                            were listed, from the start of the list on; the state is the new one. The bytes of the output behind the written ones and the numbers of the
+                            list behind the listed ones are unchanged. To go on after SLED_OK, SLED_END_NO_ROOM or SLED_END_LIST_FULL, call again with this state, the
+                            input from the first byte that was not taken, new room and a new list. After SLED_END_NOT_A_DIGIT pass over or mend the byte first. After
+                            SLED_END_RANGE_LEFT the session is over: whatever input, room and list a call from this state is given, it takes nothing, writes nothing,
+                            lists nothing, leaves the state and answers SLED_END_RANGE_LEFT again; or SLED_END_NO_ROOM, if output_length is 0 and a digit could be given
+                            out; or else SLED_END_LIST_FULL, if divisors_length is 0.
      SLED_REFUSED_..        of the input system (COUNT, RANGE, MAP, INTERVAL, LOWEST, GAP, EXPAND, as sled_admit), then of the output system, then SLED_REFUSED_STATE:
-                            counts[0] and counts[1] are 0, and the state and the output are unchanged.
+                            the three counts are 0, and the state, the output and the list are unchanged.
      SLED_REFUSED_LENGTH    in_length or out_length is not SLED_COLUMNS, state_length is not SLED_STATE or counts_length is not SLED_COUNTS: nothing is written, not even
                             the counts.
 
-   input_length and output_length may be anything, 0 too. A call first judges both systems, so feed long pieces where speed matters. Steps are linear in bytes taken plus
-   digits written. */
+   Where several ends apply, it is SLED_END_NO_ROOM before SLED_END_LIST_FULL before SLED_END_RANGE_LEFT.
+
+   input_length, output_length and divisors_length may be anything, 0 too. A run that is not refused lists counts[0] + counts[1] divisors, and one more if a digit was held
+   before it, and one fewer if one is held after it. So SLED_END_LIST_FULL never comes where divisors_length is input_length + output_length + 1 or more, nor where it is
+   input_length + output_length and nothing was held before. A run that does not end so is the same with every longer list.
+
+   A call first judges both systems, so feed long pieces where speed matters. Steps are linear in bytes taken plus digits written. */
 uint32_t sled_run(size_t in_digits, const int16_t *in_columns, size_t in_length, size_t out_digits, const int16_t *out_columns, size_t out_length,
                   int64_t *state, size_t state_length, const uint8_t *input, size_t input_length, uint8_t *output, size_t output_length,
-                  size_t *counts, size_t counts_length);
+                  uint64_t *divisors, size_t divisors_length, size_t *counts, size_t counts_length);
 
 #ifdef __cplusplus
 }

@@ -4,8 +4,8 @@
   crates/test_cases/expected.py            writes stdin (the cases) and stdout (what must be printed) beside this file
   crates/test_cases/expected.py --check    says whether the two files are what it would write
 
-The cases, one row each, are below, those about expanding in expanding.py, and those about a system by rows and by columns in turning.py. What kinds of case there are, and
-how each is written to stdin, is in kinds.py; what is handed in is in handed_in.py.
+The cases, one row each, are below, those about the list of divisors in listing.py, those about expanding in expanding.py, and those about a system by rows and by columns in
+turning.py. What kinds of case there are, and how each is written to stdin, is in kinds.py; what is handed in is in handed_in.py.
 """
 import os, sys
 
@@ -15,6 +15,7 @@ sys.dont_write_bytecode = True
 from expanding import expanding, expanding_last
 from handed_in import b, bare, counted, d, filled, holding, hundred, i, job, opened, put, r
 from kinds import admitted, case, case_r, cuts, lines, opening, places, stdin
+from listing import divisors, lengths, orders_of_15
 from rules import LIMIT
 from turning import orders
 
@@ -133,7 +134,7 @@ def states():
     places('three digits and rubbish', filled(counted(r, 3), 24, 77))
 
 
-for part in (runs, sessions, refusals, expanding, expanding_last, states, orders):
+for part in (runs, sessions, divisors, orders_of_15, lengths, refusals, expanding, expanding_last, states, orders):
     part()
 here = os.path.dirname(os.path.abspath(__file__))
 files = {'stdin': b''.join(stdin), 'stdout': ''.join(line + '\n' for line in lines).encode()}

@@ -1,4 +1,4 @@
-"""What is handed in to the program `test_cases`, its value here and its bytes for the program, as crates/test_input reads them: systems, states, words and numbers."""
+"""What is handed in to the program `test_cases`, its value here and its bytes for the program, as crates/test_input reads them: systems, states, words, lists and numbers."""
 import struct
 
 from rules import open_
@@ -45,6 +45,11 @@ def system_bytes(s):
 def word_bytes(w):
     assert len(w) <= 64, 'the program has room for 64 bytes'
     return bytes([len(w), *w])
+
+
+def list_bytes(divisors):
+    """Numbers of 64 bits, none below 0, after how many they are."""
+    return struct.pack(f'<B{len(divisors)}Q', len(divisors), *divisors)
 
 
 def matrix_bytes(m):

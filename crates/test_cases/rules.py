@@ -1,4 +1,4 @@
-"""Documents 01 and 02 in Python: points, inclusion, expanding, which systems are admitted, opening, and the run. It knows nothing of the library, and decides in another way:
+"""Documents 01 and 02 in Python: points, inclusion, expanding, which systems are admitted, opening, and the run with its list. It knows nothing of the library, and decides in another way:
 inclusion and cover by trying one point between every two neighbouring ends, and expanding by the least value of a polynomial, and not by the library's tests.
 
 A system is its count and its 128 numbers by rows, a state is a matrix and the held digit or None, a word is a list of bytes.
@@ -89,8 +89,9 @@ def times(m, n):
 
 
 def cancel(m):
+    """The matrix cancelled, and the divisor: "divide it by the greatest common divisor of the four entries. Signs stay." """
     g = gcd(*m)
-    return [(abs(n) // g) * (1 if n > 0 else -1) for n in m]
+    return [(abs(n) // g) * (1 if n > 0 else -1) for n in m], g
 
 
 def fits(m):
@@ -102,24 +103,24 @@ def open_(m):
         return 6, ([0] * 4, None)
     if m[0] * m[3] - m[1] * m[2] <= 0:
         return 11, ([0] * 4, None)
-    return 0, (cancel(m), None)
+    return 0, (cancel(m)[0], None)
 
 
-def run(ins, outs, state, word, out):
-    """The end, the bytes taken, the digits written and the state; out is changed in place."""
+def run(ins, outs, state, word, out, divisors):
+    """The end, the bytes taken, the digits written, the numbers listed and the state; out and divisors are changed in place."""
     x, held = state
     bad = admit(ins) or admit(outs)
     if not bad and not (fits(x) and x[0] * x[3] - x[1] * x[2] > 0 and gcd(*x) == 1 and (held is None or held < ins[0])):
         bad = 12
     if bad:
-        return bad, 0, 0, state
-    taken = written = 0
+        return bad, 0, 0, 0, state
+    taken = written = listed = 0
     while True:
         if held is None:
             if taken == len(word):
-                return 0, taken, written, (x, held)
+                return 0, taken, written, listed, (x, held)
             if word[taken] >= ins[0]:
-                return 21, taken, written, (x, held)
+                return 21, taken, written, listed, (x, held)
             held = word[taken]
             taken += 1
             continue
@@ -127,14 +128,16 @@ def run(ins, outs, state, word, out):
         image = [x[0] * row[4] + x[1] * row[5], x[2] * row[4] + x[3] * row[5], x[0] * row[6] + x[1] * row[7], x[2] * row[6] + x[3] * row[7]]
         digit = next((b for b in range(outs[0]) if included(image, outs[1][8 * b + 4:8 * b + 8])), None)
         if digit is None:
-            y, then = cancel(times(x, row[:4])), None
+            (y, divisor), then = cancel(times(x, row[:4])), None
         else:
-            if written == len(out):
-                return 20, taken, written, (x, held)
             g = outs[1][8 * digit:8 * digit + 4]
-            y, then = cancel(times([g[3], -g[1], -g[2], g[0]], x)), held
-        if not fits(y):
-            return 22, taken, written, (x, held)
+            (y, divisor), then = cancel(times([g[3], -g[1], -g[2], g[0]], x)), held
+        # "15, the list is full, in steps 4 and 5, after 20 and before 22"
+        stop = 20 if digit is not None and written == len(out) else 15 if listed == len(divisors) else 0 if fits(y) else 22
+        if stop:
+            return stop, taken, written, listed, (x, held)
+        divisors[listed] = divisor
+        listed += 1
         if digit is not None:
             out[written] = digit
             written += 1

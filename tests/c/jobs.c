@@ -47,17 +47,17 @@ static void runs_on(struct system in, struct system out, long detail) {
     check(sled_open(now.matrix, SLED_MATRIX, now.state, SLED_STATE) == 0, "the job opens", detail);
     ready();
     uint32_t end = sled_run(now.found[0], now.in_columns, SLED_COLUMNS, now.found[1], now.out_columns, SLED_COLUMNS, now.state, SLED_STATE,
-                            now.file + now.found[2], now.found[3], now.output, 64, now.counts, SLED_COUNTS);
+                            now.file + now.found[2], now.found[3], now.output, 64, now.divisors, 9 + 64, now.counts, SLED_COUNTS);
     uint32_t plain = plain_run(in.digits, in_columns, SLED_COLUMNS, out.digits, out_columns, SLED_COLUMNS, (i64 *)then.state, SLED_STATE,
-                               then.file + file_length - 9, 9, then.output, 64, then.counts, SLED_COUNTS);
+                               then.file + file_length - 9, 9, then.output, 64, (u64 *)then.divisors, 9 + 64, then.counts, SLED_COUNTS);
     settled(end, plain, "the job runs", detail);
+    check(end != SLED_END_LIST_FULL, "a list of input and output together: nothing was held before", detail);
 }
 
 static void good_jobs(void) {
-    const struct system systems[5] = {R, B, D, HUNDRED, SIXTEEN};
     const int16_t m[4] = {1000, -3, 5, 7};
-    for (int k = 0; k < 25; k++) {
-        struct system in = systems[k / 5], out = systems[k % 5];
+    for (int k = 0; k < SYSTEMS * SYSTEMS; k++) {
+        struct system in = ADMITTED[k / SYSTEMS], out = ADMITTED[k % SYSTEMS];
         write_job(in, out, 4, m, 9, 9);
         stored(then.in_columns, in);
         stored(then.out_columns, out);

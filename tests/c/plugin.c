@@ -5,6 +5,10 @@
      systems.c    the calls about one system: handing one out, and judging one
      turning.c    turning rows into columns and back
      runs.c       opening, and runs; refusals.c has runs that are refused
+     lists.c      the list of what was cancelled: where it is full, and how long it has to be
+     session.c    calls one behind the other
+     cuts.c       runs in several calls are one run
+     scale.c      what the list is for: the scale of all that a session has done
      jobs.c       job files
      plugin.c     here: random runs, most of them bad, held against plain C (bench/plain.c); and all parts one after the other */
 #include "plain.h"
@@ -12,8 +16,7 @@
 
 /* A system by chance: a good one, or one with a number changed, or with another count; sometimes of a wrong length. */
 static void some_system(int16_t *columns, size_t *digits, size_t *length) {
-    const struct system from[5] = {R, B, D, HUNDRED, SIXTEEN};
-    struct system s = from[any(5)];
+    struct system s = ADMITTED[any(SYSTEMS)];
     junk = any(JUNKS);
     lend(columns, s);
     size_t number = 16 * any(8) + any((uint32_t)s.digits);
@@ -35,32 +38,47 @@ static void some_state(int64_t *state) {
 }
 
 static struct lengths some_run(void) {
-    struct lengths n = {.state = SLED_STATE, .input = any(100), .output = any(100), .counts = SLED_COUNTS};
+    struct lengths n = {.state = SLED_STATE, .input = any(100), .output = any(100), .divisors = any(any(2) == 0 ? 20 : 240), .counts = SLED_COUNTS};
     begin_at_random();
     some_system(now.in_columns, &n.in_digits, &n.in_columns);
     some_system(now.out_columns, &n.out_digits, &n.out_columns);
     some_state(now.state);
     if (any(32) == 0) n.state = any(8);
-    if (any(32) == 0) n.counts = any(4);
+    if (any(32) == 0) n.counts = any(8);
     uint32_t below = 2 + any(8);
-    for (size_t k = 0; k < 128; k++) now.input[k] = (uint8_t)any(any(4) == 0 ? below : 2);
+    for (size_t k = 0; k < SPACE; k++) now.input[k] = (uint8_t)any(any(4) == 0 ? below : 2);
     ready();
     return n;
+}
+
+/* plain C's run over what stands in `then` */
+static uint32_t plain(struct lengths n) {
+    return plain_run(n.in_digits, then.in_columns, n.in_columns, n.out_digits, then.out_columns, n.out_columns, (i64 *)then.state, n.state, then.input, n.input, then.output,
+                     n.output, (u64 *)then.divisors, n.divisors, then.counts, n.counts);
+}
+
+/* of a run that was made: one divisor for each digit written and for each absorbed, none of them out of range, and a list that is long enough is not full */
+static int listed_well(struct lengths n, uint32_t end, size_t before) {
+    if (end != SLED_OK && end != SLED_END_LIST_FULL && (end < SLED_END_NO_ROOM || end > SLED_END_RANGE_LEFT)) return 1; /* refused */
+    const size_t *c = now.counts, after = now.state[4] >= 0;
+    int well = c[2] + after == c[0] + c[1] + before && (end != SLED_END_LIST_FULL || n.divisors < n.input + n.output + before);
+    for (size_t k = 0; k < c[2]; k++) well &= now.divisors[k] >= 1 && now.divisors[k] <= 200000000000;
+    return well;
 }
 
 static void random_runs(int times) {
     int seen[41] = {0}, before = passed;
     for (int t = 0; t < times; t++) {
         struct lengths n = some_run();
+        size_t held = now.state[4] >= 0;
         check(sled_admit(n.in_digits, now.in_columns, n.in_columns) == plain_admit(n.in_digits, then.in_columns, n.in_columns), "random admission", t);
         uint32_t end = run(n);
-        uint32_t plain = plain_run(n.in_digits, then.in_columns, n.in_columns, n.out_digits, then.out_columns, n.out_columns, (i64 *)then.state, n.state, then.input, n.input,
-                                   then.output, n.output, then.counts, n.counts);
-        settled(end, plain, "random run", t);
+        settled(end, plain(n), "random run", t);
+        check(listed_well(n, end, held), "the list of a random run", t);
         if (end <= 40) seen[end]++;
     }
     counts_as_one(before);
-    const int numbers[] = {0, 3, 6, 7, 8, 9, 10, 12, 18, 20, 21, 22, 40};
+    const int numbers[] = {0, 3, 6, 7, 8, 9, 10, 12, 15, 18, 20, 21, 22, 40};
     for (size_t k = 0; k < sizeof numbers / sizeof *numbers; k++) check(seen[numbers[k]] > 0, "random runs meet each number", numbers[k]);
 }
 
@@ -71,6 +89,9 @@ int main(void) {
     for (junk = NOUGHT; junk < JUNKS; junk++) {
         admission();
         runs();
+        lists();
+        cuts();
+        scales();
         refusals();
         jobs();
     }

@@ -1,10 +1,12 @@
-/* Runs that are refused: each reason, which of two comes first, and what is left. */
+/* Runs that are refused: each reason, which of two comes first, and what is left. The list does not matter: no such run asks whether it is full. */
 #include "world.h"
 
 static void refused(struct system in, struct system out, const int64_t *state, uint32_t expected, const char *what, long detail) {
-    given(in, out, state, WORD, 3);
-    counted(0, 0);
-    settled(run(right(in, out, 3, 10)), expected, what, detail);
+    for (size_t places = 0; places <= 14; places += 7) {
+        given(in, out, state, WORD, 3);
+        counted(0, 0, 0);
+        settled(run(listing(in, out, 3, 10, places)), expected, what, detail);
+    }
 }
 
 static const int64_t WORSE[5] = {2, 0, 0, 2, 99};
@@ -90,7 +92,7 @@ static void bad_lengths(void) {
         }
     for (size_t k = 0; k <= 8; k++)
         if (k != SLED_STATE) n = right(R, R, 3, 10), n.state = k, wrong(n, "the length of the state", k);
-    for (size_t k = 0; k <= 4; k++)
+    for (size_t k = 0; k <= 8; k++)
         if (k != SLED_COUNTS) n = right(R, R, 3, 10), n.counts = k, wrong(n, "the length of the counts", k);
 }
 

@@ -1,4 +1,4 @@
-/* Opening, and runs; refusals.c has runs that are refused. */
+/* Opening, and runs. lists.c has runs whose list is full, cuts.c runs in several calls, and refusals.c runs that are refused. */
 #include "world.h"
 
 /* ---- opening */
@@ -44,39 +44,47 @@ void opening(void) {
 
 /* ---- runs */
 
-static void stands(int64_t a, int64_t b, int64_t c, int64_t d, int64_t held) {
-    const int64_t five[5] = {a, b, c, d, held};
-    memcpy(then.state, five, sizeof five);
-}
-
-static const int64_t ONE[5] = {1, 0, 0, 1, -1};
-
 static void short_words(void) {
     given(R, R, START, WORD, 3);
-    counted(3, 3);
+    counted(3, 3, 6);
     then.output[0] = 0, then.output[1] = 1, then.output[2] = 1;
     settled(run(right(R, R, 3, 10)), 0, "R to R, 0 0 1", 0);
 
     given(R, R, START, WORD, 3);
-    counted(3, 2);
+    counted(3, 2, 4);
     stands(3, 0, 1, 1, 1);
     then.output[0] = 0, then.output[1] = 1;
     settled(run(right(R, R, 3, 2)), 20, "the same with room 2", 0);
-    counted(0, 0);
+    counted(0, 0, 0);
     settled(run(right(R, R, 0, 0)), 20, "it stops again", 0);
-    counted(0, 1);
+    counted(0, 1, 2);
     stands(2, 1, 1, 2, -1);
     then.output[0] = 1;
     settled(run(right(R, R, 0, 1)), 0, "and goes on with room", 0);
 
+    given(R, R, START, WORD, 3);
+    counted(0, 0, 0);
+    settled(run(right(R, R, 0, 0)), 0, "an empty word", 0);
+}
+
+/* what is cancelled is listed: document 01's 2 in B, where a digit is absorbed; and 10000 at once, where one is absorbed and where one is given out */
+static void cancelled(void) {
     given(B, B, ONE, (const uint8_t[]){1}, 1);
-    counted(1, 1);
-    then.output[0] = 1;
+    counted(1, 1, 2);
+    then.output[0] = 1, then.divisors[1] = 2;
     settled(run(right(B, B, 1, 10)), 0, "B to B, a 2 is cancelled", 0);
 
-    given(R, R, START, WORD, 3);
-    counted(0, 0);
-    settled(run(right(R, R, 0, 0)), 0, "an empty word", 0);
+    given(STEEP, R, (const int64_t[]){100, 0, -1, 100, -1}, (const uint8_t[]){0}, 1);
+    counted(1, 0, 1);
+    stands(1, 0, 0, 1, -1);
+    then.divisors[0] = 10000;
+    settled(run(right(STEEP, R, 1, 10)), 0, "10000 is cancelled, absorbing", 0);
+
+    given(R, STEEP, (const int64_t[]){100, 0, 1, 100, -1}, (const uint8_t[]){1}, 1);
+    counted(1, 2, 3);
+    stands(1, 0, 0, 1, -1);
+    then.output[0] = 0, then.output[1] = 2, then.divisors[0] = 10000;
+    settled(run(right(R, STEEP, 1, 10)), 0, "10000 is cancelled, giving out", 0);
 }
 
 /* a byte that is no digit stops the run, whatever stands in the place of such a digit */
@@ -84,7 +92,7 @@ static void no_digit(void) {
     for (int byte = 4; byte < 256; byte++) {
         given(R, R, START, WORD, 3);
         now.input[0] = then.input[0] = (uint8_t)byte;
-        counted(0, 0);
+        counted(0, 0, 0);
         settled(run(right(R, R, 3, 10)), 21, "no digit", byte);
     }
 }
@@ -94,23 +102,23 @@ static void a_third(void) {
     for (int k = 0; k < 40; k++) third[k] = k % 2 == 0 ? 2 : 0;
     const int64_t m[5] = {3, -1, 0, 1, -1};
     given(D, R, m, third, 40);
-    counted(30, 0);
+    counted(30, 0, 29);
     stands(3, 1, 0, 536870912, 0);
     settled(run(right(D, R, 40, 100)), 22, "D to R, 40 digits of 1/3", 0);
-    counted(0, 0);
+    counted(0, 0, 0);
     settled(run(right(D, R, 10, 100)), 22, "it stops again", 0);
     given(D, R, m, third, 40);
-    counted(29, 0);
+    counted(29, 0, 29);
     stands(3, 1, 0, 536870912, -1);
     settled(run(right(D, R, 29, 100)), 0, "29 of them", 0);
 }
 
 /* one digit that stands for a hundred zeros fills any smaller room with 0 and stays held; where there is room for the hundred, it is absorbed behind them */
 static void any_room(void) {
-    for (size_t room = 0; room <= 128; room++) {
+    for (size_t room = 0; room <= SPACE; room++) {
         size_t zeros = room < 100 ? room : 100;
         given(HUNDRED, R, ONE, (const uint8_t[]){4}, 1);
-        counted(1, zeros);
+        counted(1, zeros, room < 100 ? room : 101);
         if (room < 100) stands(1, 0, -(int64_t)room, 1, 4);
         memset(then.output, 0, zeros);
         settled(run(right(HUNDRED, R, 1, room)), room < 100 ? 20 : 0, "any room is filled with 0", (long)room);
@@ -119,24 +127,31 @@ static void any_room(void) {
 
 /* two identity digits would fill any room with 0 from one digit, and are refused: the number is 18, whatever the room, and nothing is taken or written */
 static void no_endless_row(void) {
-    for (size_t room = 0; room <= 128; room++) {
+    for (size_t room = 0; room <= SPACE; room++) {
         given(SAME, SAME, ONE, (const uint8_t[]){0}, 1);
-        counted(0, 0);
+        counted(0, 0, 0);
         settled(run(right(SAME, SAME, 1, room)), SLED_REFUSED_EXPAND, "no endless row of zeros", (long)room);
     }
 }
 
-/* after end 22 the session is over: whatever bytes and room follow, nothing is done; without any room the end is 20 where a digit fits */
+/* After end 22 the session is over: whatever bytes, room and list follow, nothing is done. Where a digit fits, the end is 20 without any room; else it is 15 without any
+   place in the list. */
 static void after_22(void) {
-    const int64_t state[5] = {-760000000, -2, 400000000, 1, -1};
-    given(R, D, state, (const uint8_t[]){0, 9, 1}, 3);
-    counted(1, 0);
-    stands(-760000000, -2, 400000000, 1, 0);
-    settled(run(right(R, D, 1, 2)), 22, "a digit fits, and its state leaves the range", 0);
-    counted(0, 0);
-    for (size_t length = 0; length <= 3; length++)
-        for (size_t room = 0; room <= 3; room++)
-            settled(run(right(R, D, length, room)), room == 0 ? 20 : 22, "and again, with other bytes and other room", (long)(10 * length + room));
+    const int64_t giving[5] = {-760000000, -2, 400000000, 1, -1}, absorbing[5] = {3, 1, 0, 536870912, -1};
+    for (int fits = 0; fits < 2; fits++) {
+        struct system in = fits ? R : D, out = fits ? D : R;
+        given(in, out, fits ? giving : absorbing, (const uint8_t[]){0, 9, 1}, 3);
+        counted(1, 0, 0);
+        then.state[4] = 0;
+        settled(run(right(in, out, 1, 2)), 22, "a state leaves the range", fits);
+        counted(0, 0, 0);
+        for (size_t length = 0; length <= 3; length++)
+            for (size_t room = 0; room <= 3; room++)
+                for (size_t places = 0; places <= 3; places++) {
+                    uint32_t end = fits && room == 0 ? 20 : places == 0 ? 15 : 22;
+                    settled(run(listing(in, out, length, room, places)), end, "and again, with other bytes, room and list", (long)(100 * length + 10 * room + places));
+                }
+    }
 }
 
 /* R's digits again and again, so many of sixteen: the first four are given out */
@@ -145,52 +160,19 @@ static void any_count(void) {
         for (size_t out = 4; out <= 16; out++) {
             const struct system some = {in, SIXTEEN.rows}, others = {out, SIXTEEN.rows};
             given(some, others, START, WORD, 3);
-            counted(3, 3);
+            counted(3, 3, 6);
             then.output[0] = 0, then.output[1] = 1, then.output[2] = 1;
             settled(run(right(some, others, 3, 10)), 0, "R's digits again and again", (long)(100 * in + out));
         }
 }
 
-enum { WHOLE = 60, SPACE = 128 };
-
-/* what R to B writes of the whole word, `piece` bytes and `room` digits a call; answers how many digits, or 0 if it does not come to an end */
-static size_t in_pieces(const uint8_t *word, size_t piece, size_t room, uint8_t *output, int64_t *state) {
-    int16_t in[SLED_COLUMNS], out[SLED_COLUMNS];
-    size_t counts[2] = {0, 0}, taken = 0, written = 0;
-    memcpy(state, START, sizeof START);
-    for (int calls = 0; calls < 1000 && written < SPACE; calls++) {
-        size_t give = WHOLE - taken < piece ? WHOLE - taken : piece, take = SPACE - written < room ? SPACE - written : room;
-        lend(in, R), lend(out, B); /* and other junk at each call */
-        uint32_t end = sled_run(4, in, SLED_COLUMNS, 8, out, SLED_COLUMNS, state, 5, word + taken, give, output + written, take, counts, 2);
-        if (counts[0] > give || counts[1] > take) return 0;
-        taken += counts[0];
-        written += counts[1];
-        if (end == 0 && taken == WHOLE) return written;
-    }
-    return 0;
-}
-
-/* a word fed in pieces of each size gives what the whole word gives */
-static void pieces(void) {
-    uint8_t word[WHOLE], whole[SPACE], parts[SPACE];
-    int64_t end_state[5], state[5];
-    for (int k = 0; k < WHOLE; k++) word[k] = (uint8_t)(k * k % 7 % 2);
-    size_t length = in_pieces(word, WHOLE, SPACE, whole, end_state);
-    check(length > 20, "the whole word", (long)length);
-    for (size_t piece = 1; piece <= WHOLE; piece++)
-        for (size_t room = 1; room <= 9; room++) {
-            size_t written = in_pieces(word, piece, room, parts, state);
-            check(written == length && memcmp(whole, parts, length) == 0 && memcmp(state, end_state, sizeof state) == 0, "in pieces", (long)(10 * piece + room));
-        }
-}
-
 void runs(void) {
     short_words();
+    cancelled();
     no_digit();
     a_third();
     any_room();
     no_endless_row();
     any_count();
     after_22();
-    pieces();
 }

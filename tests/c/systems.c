@@ -183,6 +183,7 @@ void admission(void) {
     admits(B, 0, "B", 0);
     admits(D, 0, "D", 0);
     admits(HUNDRED, 0, "a hundred zeros", 0);
+    admits(STEEP, 0, "determinant 10000", 0);
     admits(SAME, SLED_REFUSED_EXPAND, "two identity digits", 0);
     admits(PLAIN_BINARY, SLED_REFUSED_EXPAND, "document 004's plain binary system", 0);
     admits((struct system){3, R.rows}, 10, "R without digit 3", 0);

@@ -70,8 +70,10 @@ static void long_slices(void) {
     for (size_t cut = 256; cut <= 65536; cut *= 256) {
         settled(sled_admit(4, vast, cut + 128), 40, "admission of long columns", (long)cut);
         settled(sled_system_r(vast, cut + 128), 40, "R into long columns", (long)cut);
-        settled(sled_run(4, vast, cut + 128, 4, out, SLED_COLUMNS, now.state, 5, now.input, 3, now.output, 9, now.counts, 2), 40, "a run from long columns", (long)cut);
-        settled(sled_run(4, in, SLED_COLUMNS, 4, vast, cut + 128, now.state, 5, now.input, 3, now.output, 9, now.counts, 2), 40, "a run to long columns", (long)cut);
+        settled(sled_run(4, vast, cut + 128, 4, out, SLED_COLUMNS, now.state, 5, now.input, 3, now.output, 9, now.divisors, 13, now.counts, 3), 40, "a run from long columns",
+                (long)cut);
+        settled(sled_run(4, in, SLED_COLUMNS, 4, vast, cut + 128, now.state, 5, now.input, 3, now.output, 9, now.divisors, 13, now.counts, 3), 40, "a run to long columns",
+                (long)cut);
         settled(sled_read(now.file, 147, vast, cut + 128, out, SLED_COLUMNS, now.matrix, 4, now.found, 4), 40, "reading long columns", (long)cut);
         settled(sled_read(now.file, 147, in, SLED_COLUMNS, vast, cut + 128, now.matrix, 4, now.found, 4), 40, "reading long columns, second", (long)cut);
         settled(sled_columns(now.rows, 32, vast, cut + 128), 40, "into long columns", (long)cut);

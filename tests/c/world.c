@@ -7,9 +7,14 @@ enum junk junk;
 
 void ready(void) { memcpy(&then, &now, sizeof now); }
 
+uint8_t unwritten(size_t k) { return (uint8_t)(200 + k % 50); }
+
+uint64_t unlisted(size_t k) { return (uint64_t)MOST - k; }
+
 void begin(void) {
     memset(&now, 0xA5, sizeof now);
-    for (int k = 0; k < 128; k++) now.output[k] = (uint8_t)(200 + k % 50);
+    for (size_t k = 0; k < SPACE; k++) now.output[k] = unwritten(k);
+    for (size_t k = 0; k < LIST; k++) now.divisors[k] = unlisted(k);
     ready();
 }
 
@@ -60,6 +65,9 @@ void begin_at_random(void) {
 static const int16_t r_rows[32] = {R_ROWS}, sixteen_rows[128] = {R_ROWS, R_ROWS, R_ROWS, R_ROWS};
 static const int16_t hundred_rows[40] = {R_ROWS,
      1,  0, 100, 1,  0,  1,  1, 100};
+static const int16_t steep_rows[40] = {
+   100,  0, 1, 100,  1, 100, 100, 1,
+   R_ROWS};
 static const int16_t b_rows[64] = {
      1,  0,  1,  2, -1,  3,  1,  1,
      1,  1,  0,  2,  0,  1,  2,  1,
@@ -81,7 +89,8 @@ static const int16_t plain_binary_rows[24] = {
      1, -1,  0,  2, -1,  1,  0,  1,
      1,  1,  0,  2,  0,  1,  1,  1,
      2,  0,  0,  1,  1,  1,  1, -1};
-const struct system R = {4, r_rows}, B = {8, b_rows}, D = {4, d_rows}, SIXTEEN = {16, sixteen_rows}, HUNDRED = {5, hundred_rows};
+const struct system R = {4, r_rows}, B = {8, b_rows}, D = {4, d_rows}, SIXTEEN = {16, sixteen_rows}, HUNDRED = {5, hundred_rows}, STEEP = {5, steep_rows};
+const struct system ADMITTED[SYSTEMS] = {{4, r_rows}, {8, b_rows}, {4, d_rows}, {16, sixteen_rows}, {5, hundred_rows}, {5, steep_rows}};
 const struct system SAME = {2, same_rows}, PLAIN_BINARY = {3, plain_binary_rows};
 
 static const int16_t six[8] = {101, 0, 0, 1, 0, 1, 1, 1}, seven[8] = {0, 0, 0, 1, 0, 1, 1, 1}, eight[8] = {1, 0, 0, 1, 1, 0, 0, 1}, nine[8] = {2, 0, 0, 2, 0, 1, 1, 1};
@@ -121,12 +130,14 @@ void lend(int16_t *columns, struct system s) {
 
 uint32_t run(struct lengths n) {
     return sled_run(n.in_digits, now.in_columns, n.in_columns, n.out_digits, now.out_columns, n.out_columns, now.state, n.state, now.input, n.input, now.output, n.output,
-                    now.counts, n.counts);
+                    now.divisors, n.divisors, now.counts, n.counts);
 }
 
-struct lengths right(struct system in, struct system out, size_t input, size_t output) {
-    return (struct lengths){in.digits, SLED_COLUMNS, out.digits, SLED_COLUMNS, SLED_STATE, input, output, SLED_COUNTS};
+struct lengths listing(struct system in, struct system out, size_t input, size_t output, size_t divisors) {
+    return (struct lengths){in.digits, SLED_COLUMNS, out.digits, SLED_COLUMNS, SLED_STATE, input, output, divisors, SLED_COUNTS};
 }
+
+struct lengths right(struct system in, struct system out, size_t input, size_t output) { return listing(in, out, input, output, input + output + 1); }
 
 void given(struct system in, struct system out, const int64_t *state, const uint8_t *word, size_t length) {
     begin();
@@ -137,10 +148,20 @@ void given(struct system in, struct system out, const int64_t *state, const uint
     ready();
 }
 
-void counted(size_t taken, size_t written) {
-    then.counts[0] = taken;
-    then.counts[1] = written;
+void stands(int64_t a, int64_t b, int64_t c, int64_t d, int64_t held) {
+    const int64_t five[5] = {a, b, c, d, held};
+    memcpy(then.state, five, sizeof five);
 }
 
-const int64_t START[5] = {2, 1, 1, 2, -1}, LEAST = -0x7fffffffffffffff - 1, MOST = 0x7fffffffffffffff;
+void counted(size_t taken, size_t written, size_t listed) {
+    then.counts[0] = taken;
+    then.counts[1] = written;
+    then.counts[2] = listed;
+    for (size_t k = 0; k < LIST; k++) {
+        now.divisors[k] = unlisted(k);
+        then.divisors[k] = k < listed ? 1 : unlisted(k);
+    }
+}
+
+const int64_t START[5] = {2, 1, 1, 2, -1}, ONE[5] = {1, 0, 0, 1, -1}, LEAST = -0x7fffffffffffffff - 1, MOST = 0x7fffffffffffffff;
 const uint8_t WORD[3] = {0, 0, 1};

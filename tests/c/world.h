@@ -15,6 +15,7 @@ void *memset(void *to, int byte, size_t n);
 int memcmp(const void *a, const void *b, size_t n);
 
 enum { GUARD = 64, LENT = 144 }; /* LENT: more numbers than the columns or the rows of a system have, so that there are lengths which are too large */
+enum { SPACE = 128, LIST = 2 * SPACE + 8 }; /* bytes of the input, and of the output; and more numbers of the list than a run over them can fill */
 
 struct world {
     uint8_t guard0[GUARD];
@@ -28,20 +29,25 @@ struct world {
     uint8_t guard4[GUARD];
     int64_t state[8];
     uint8_t guard5[GUARD];
-    uint8_t input[128];
+    uint8_t input[SPACE];
     uint8_t guard6[GUARD];
-    uint8_t output[128];
+    uint8_t output[SPACE];
     uint8_t guard7[GUARD];
-    size_t counts[4];
+    uint64_t divisors[LIST];
     uint8_t guard8[GUARD];
-    uint8_t file[704];
+    size_t counts[8];
     uint8_t guard9[GUARD];
-    size_t found[8];
+    uint8_t file[704];
     uint8_t guard10[GUARD];
+    size_t found[8];
+    uint8_t guard11[GUARD];
 };
 
 extern struct world now, then;
 extern int passed, failed;
+
+uint8_t unwritten(size_t k); /* what stands at place k of the output, and of the list, before a call: no digit and no divisor is so large */
+uint64_t unlisted(size_t k);
 
 void begin(void);           /* a world in which every byte is known */
 void begin_at_random(void); /* a world of any bytes */
@@ -64,8 +70,11 @@ struct system {
     const int16_t *rows;
 };
 
-/* the built-in systems; sixteen digits, R's four times; and R's with a fifth digit, which stands for a hundred digits 0 of R */
-extern const struct system R, B, D, SIXTEEN, HUNDRED;
+/* the built-in systems; sixteen digits, R's four times; R's with a fifth digit behind them, which stands for a hundred digits 0 of R; and R's with another before them,
+   whose map has determinant 10000, so that as much can be cancelled at once */
+extern const struct system R, B, D, SIXTEEN, HUNDRED, STEEP;
+enum { SYSTEMS = 6 };
+extern const struct system ADMITTED[SYSTEMS]; /* these */
 
 /* systems that cover the line and do not expand: two digits that are both the identity, with (0, infinity) and (infinity, 0); and document 004's plain binary system */
 extern const struct system SAME, PLAIN_BINARY;
@@ -88,20 +97,47 @@ void lend(int16_t *columns, struct system s);   /* the columns that it is lent: 
 
 /* every count and every length that a run is told */
 struct lengths {
-    size_t in_digits, in_columns, out_digits, out_columns, state, input, output, counts;
+    size_t in_digits, in_columns, out_digits, out_columns, state, input, output, divisors, counts;
 };
 
 uint32_t run(struct lengths n);
 
-struct lengths right(struct system in, struct system out, size_t input, size_t output); /* the right ones for these systems */
+/* the right ones for these systems, with a list that is never full: one place more than input and output have together */
+struct lengths right(struct system in, struct system out, size_t input, size_t output);
+
+/* the same with a list of so many places */
+struct lengths listing(struct system in, struct system out, size_t input, size_t output, size_t divisors);
 
 /* what a run finds: systems, a state, a word */
 void given(struct system in, struct system out, const int64_t *state, const uint8_t *word, size_t length);
 
-void counted(size_t taken, size_t written); /* the counts that it has to leave */
+/* what it has to leave: the state; and the counts, with as many 1 in the list, which is lent afresh, as are listed. R's digits cancel nothing; another divisor is said
+   after this. */
+void stands(int64_t a, int64_t b, int64_t c, int64_t d, int64_t held);
+void counted(size_t taken, size_t written, size_t listed);
 
-extern const int64_t START[5], LEAST, MOST;
+extern const int64_t START[5], ONE[5], LEAST, MOST;
 extern const uint8_t WORD[3];
+
+/* ---- a session: calls one behind the other over one word, one output and one list */
+
+struct session {
+    struct system in, out;
+    const uint8_t *word;
+    int64_t state[SLED_STATE];
+    uint8_t output[SPACE];
+    uint64_t divisors[LIST];
+    size_t taken, written, listed; /* of all calls */
+    uint32_t end;                  /* of the last one */
+};
+
+struct session session(struct system in, struct system out, const int64_t *state, const uint8_t *word);
+
+/* one call more: so many bytes, so much room and so many places of the list, behind what the calls before took, wrote and listed; its counts are held against each other */
+void call(struct session *s, size_t input, size_t output, size_t divisors);
+
+/* the same with at most so many: no more than is left of a word of this length, of the output and of the list */
+void call_at_most(struct session *s, size_t length, size_t input, size_t output, size_t divisors);
 
 /* ---- the parts */
 
@@ -110,6 +146,9 @@ void admission(void);
 void turning(void);
 void opening(void);
 void runs(void);
+void lists(void);
+void cuts(void);
+void scales(void);
 void refusals(void);
 void jobs(void);
 

@@ -95,19 +95,21 @@ sled-open-in-range m old = by (openLengths? m old)
 
 -- ---- a run
 
-pub sled-run-in-range : (a b : StoredSystem) (input : List ℕ) (old : List ℤ) (output counts : List ℕ) →
-    RunInRange (a .count) (b .count) input old output counts (runCall a b input old output counts)
+pub sled-run-in-range : (a b : StoredSystem) (input : List ℕ) (old : List ℤ) (output divisors counts : List ℕ) →
+    RunInRange (a .count) (b .count) input old output divisors counts (runCall a b input old output divisors counts)
 unfolding runCall
-sled-run-in-range a b input old output counts = by (runLengths? a b old counts)
+sled-run-in-range a b input old output divisors counts = by (runLengths? a b old counts)
   where
-    by : (t : Bool) → RunInRange (a .count) (b .count) input old output counts
-        (cond t (ranCall (runOf (systemOf a) (systemOf b) (stateFrom old) input output) old) (afterRun wrongLength old output counts))
-    by true = ran-in-range (systemOf a) (systemOf b) input old output counts
+    by : (t : Bool) → RunInRange (a .count) (b .count) input old output divisors counts
+        (cond t (ranCall (runOf (systemOf a) (systemOf b) (stateFrom old) input output divisors) old) (afterRun wrongLength old output divisors counts))
+    by true = ran-in-range (systemOf a) (systemOf b) input old output divisors counts
     by false = record {
       number = inr refl;
       room = refl;
-      two = λ h. absurd (omega (arith, end-few h));
+      list-room = refl;
+      three = λ h. absurd (omega (arith, end-few h));
       digits = λ h. absurd (omega (arith, end-few h));
+      divisors = λ h. absurd (omega (arith, end-few h));
       state = λ h. absurd (omega (arith, end-few h));
       refused = λ h. absurd (omega (arith, refusal-bounds h .1));
       untouched = λ h. refl;

@@ -6,6 +6,7 @@
 --   Runs      the range of what a run leaves in lent numbers
 --   Calls     the range of what the C functions answer and leave
 --   OneAnswer no second answer fits, function by function
+--   NeverFull the program's list never fills, nor does a plug-in's that is long enough
 pub mod Laws
 mod Settled
 mod Sections
@@ -13,3 +14,4 @@ mod Answers
 mod Runs
 mod Calls
 mod OneAnswer
+mod NeverFull

@@ -9,7 +9,7 @@ use Rattle.states.proofs.Laws.{State, Stop, endNumber}
 use Rattle.steps.proofs.Laws.{Setting}
 use Rattle.opening.proofs.Laws.{Opening, Start, openingNumber, openingOf, openOf}
 use Rattle.judging.proofs.Laws.{refusalOf}
-use Rattle.unary.proofs.Laws.{Answer, runOf}
+use Rattle.unary.proofs.Laws.{Answer, ran, runOf}
 use Rattle.jobs.proofs.Laws.{Reading, readOf}
 use Rattle.printed.specs.Text.{printed}
 use Rattle.printed.specs.Responds.{Responds}
@@ -54,13 +54,10 @@ one-opening m r r′ = one
 pub one-refusal : (y : Setting) (s : State) (r r′ : ℕ) → r ≡ refusalOf y s → r′ ≡ refusalOf y s → r ≡ r′
 one-refusal y s r r′ = one
 
--- run, run_lent: the answer, and the output afterwards
-abbrev pub RunPromise : System → System → State → List ℕ → List ℕ → Answer → List ℕ → Type 0
-RunPromise a b s input output r new = (r ≡ runOf a b s input output .answer) × (new ≡ runOf a b s input output .output)
-
-pub one-run : (a b : System) (s : State) (input output : List ℕ) (r r′ : Answer) (new new′ : List ℕ) →
-    RunPromise a b s input output r new → RunPromise a b s input output r′ new′ → (r ≡ r′) × (new ≡ new′)
-one-run a b s input output r r′ new new′ p q = (one (p .0) (q .0), one (p .1) (q .1))
+-- run, run_lent: the answer, and the output and the list afterwards
+pub one-run : (a b : System) (s : State) (input output divisors : List ℕ) (r r′ : Answer) (new new′ list list′ : List ℕ) →
+    ran r new list ≡ runOf a b s input output divisors → ran r′ new′ list′ ≡ runOf a b s input output divisors → ran r new list ≡ ran r′ new′ list′
+one-run a b s input output divisors r r′ new new′ list list′ = one
 
 -- read
 pub one-reading : (file : List ℕ) (r r′ : Reading) → r ≡ readOf file → r′ ≡ readOf file → r ≡ r′
@@ -95,9 +92,9 @@ pub one-sled-open : (m old : List ℤ) (r r′ : ℕ) (new new′ : List ℤ) �
     wrote r new ≡ openCall m old → wrote r′ new′ ≡ openCall m old → wrote r new ≡ wrote r′ new′
 one-sled-open m old r r′ new new′ = one
 
-pub one-sled-run : (a b : StoredSystem) (input : List ℕ) (old : List ℤ) (output counts : List ℕ) (x y : AfterRun) →
-    x ≡ runCall a b input old output counts → y ≡ runCall a b input old output counts → x ≡ y
-one-sled-run a b input old output counts x y = one
+pub one-sled-run : (a b : StoredSystem) (input : List ℕ) (old : List ℤ) (output divisors counts : List ℕ) (x y : AfterRun) →
+    x ≡ runCall a b input old output divisors counts → y ≡ runCall a b input old output divisors counts → x ≡ y
+one-sled-run a b input old output divisors counts x y = one
 
 pub one-sled-read : (file : List ℕ) (in-columns out-columns m : List ℤ) (found : List ℕ) (x y : AfterRead) →
     x ≡ readCall file in-columns out-columns m found → y ≡ readCall file in-columns out-columns m found → x ≡ y

@@ -1,5 +1,5 @@
 -- What the C functions can answer, and what stands in the lent numbers behind a call. Where a call answers no 0, and a run no end, they are as they were, the
--- two counts of a refused run apart.
+-- three counts of a refused run apart.
 use mathlib.Core.Path.{_≡_}
 use mathlib.Core.List.{List, [], _∷_}
 use mathlib.Core.Logic.{_⊎_}
@@ -12,6 +12,7 @@ use Rattle.digits.specs.Types.{StoredSystem}
 use Rattle.digits.specs.Orders.{byRow, byColumn, InRows, SameNumbers}
 use Rattle.admission.specs.Admission.{SystemNumber}
 use Rattle.states.specs.State.{EndNumber}
+use Rattle.steps.specs.Step.{DivisorNumber}
 use Rattle.judging.specs.Refusal.{RefusalNumber}
 use Rattle.jobs.specs.Types.{Job}
 use Rattle.numbers.specs.Numbers.{lentSystem, wrongLength, Wrote}
@@ -65,25 +66,32 @@ pub record OpenInRange (old : List ℤ) (w : Wrote) : Type 0 where
   pub state : w .number ≡ 0 → StateInRange 1000 0 (w .numbers)
   pub untouched : 1 ≤ w .number → w .numbers ≡ old
 
--- ---- sled_run: 0, 20, 21, 22, or 3, 6 to 10, 12, 18, or 40
+-- ---- sled_run: 0, 15, 20, 21, 22, or 3, 6 to 10, 12, 18, or 40
 
--- two counts: "bytes taken, digits written"
-pub record CountsInRange (input output counts : List ℕ) : Type 0 where
-  pub two : length counts ≡ 2
+-- three counts: "bytes taken, digits written", and divisors listed
+pub record CountsInRange (input output list counts : List ℕ) : Type 0 where
+  pub three : length counts ≡ 3
   pub taken : getD counts 0 0 ≤ length input
   pub written : getD counts 1 0 ≤ length output
+  pub listed : getD counts 2 0 ≤ length list
 
--- of two systems with so many digits, the input, and what was there before: the state's numbers, the output, the counts
-pub record RunInRange (input-count output-count : ℕ) (input : List ℕ) (old : List ℤ) (output counts : List ℕ) (r : AfterRun) : Type 0 where
+-- of two systems with so many digits, the input, and what was there before: the state's numbers, the output, the list, the counts
+pub record RunInRange (input-count output-count : ℕ) (input : List ℕ) (old : List ℤ) (output list counts : List ℕ) (r : AfterRun) : Type 0 where
   pub number : OrLength (λ n. EndNumber n ⊎ RefusalNumber n) (r .number)
   pub room : length (r .output) ≡ length output
-  -- an end: the counts, the digits, the state
-  pub two : EndNumber (r .number) → CountsInRange input output (r .counts)
+  pub list-room : length (r .divisors) ≡ length list
+  -- an end: the counts, the digits, the divisors, the state
+  pub three : EndNumber (r .number) → CountsInRange input output list (r .counts)
   pub digits : EndNumber (r .number) → (p : ℕ) → p < getD (r .counts) 1 0 → getD (r .output) p 0 < output-count
+  pub divisors : EndNumber (r .number) → (p : ℕ) → p < getD (r .counts) 2 0 → DivisorNumber (getD (r .divisors) p 0)
   pub state : EndNumber (r .number) → StateInRange 1000000000 input-count (r .state)
-  -- a refusal: counts 0 and 0, and the rest as it was; a wrong length: all as it was
-  pub refused : RefusalNumber (r .number) → r ≡ afterRun (r .number) old output (0 ∷ 0 ∷ [])
-  pub untouched : r .number ≡ wrongLength → r ≡ afterRun wrongLength old output counts
+  -- a refusal: counts 0, 0 and 0, and the rest as it was; a wrong length: all as it was
+  pub refused : RefusalNumber (r .number) → r ≡ afterRun (r .number) old output list (0 ∷ 0 ∷ 0 ∷ [])
+  pub untouched : r .number ≡ wrongLength → r ≡ afterRun wrongLength old output list counts
+
+-- a list that is never full, whatever the state: as long as input and output together, and one place more for a digit that is held before the call
+abbrev pub LongList : (input output list : List ℕ) → Type 0
+LongList input output list = length input + length output + 1 ≤ length list
 
 -- ---- sled_read: 0, number + 256 · section, or 40
 

@@ -41,14 +41,26 @@ fn quotients(m: [i64; 4], g: u64) -> [i64; 4]
     ]
 }
 
+// "Cancelling hands back its divisor beside the matrix" (document 02, T-02).
+pub struct Cancelled {
+    pub divisor: u64,
+    pub matrix: [i64; 4],
+}
+
 // "To cancel a matrix, divide it by the greatest common divisor of the four entries. Signs stay." Most products have none but 1, and are not divided.
-pub fn cancel(m: [i64; 4]) -> [i64; 4]
+pub fn cancel(m: [i64; 4]) -> Cancelled
     requires { ⌜ (Within 200000000000 m) × (0 < gcd4 m) ⌝ }
-    ensures { λ r. ⌜ r ≡ cancelOf m ⌝ }
+    ensures { λ r. ⌜ (r .divisor ≡ gcd4 m) × (r .matrix ≡ cancelOf m) ⌝ }
 {
     let g = divisor(m);
     if g == 1 {
-        return m;
+        return Cancelled {
+            divisor: 1,
+            matrix: m,
+        };
     }
-    quotients(m, g)
+    Cancelled {
+        divisor: g,
+        matrix: quotients(m, g),
+    }
 }

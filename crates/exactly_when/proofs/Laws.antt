@@ -11,7 +11,7 @@ pub use Rattle.exactly_when.proofs.EndsExactly.{ends-exactly}
 pub use Rattle.exactly_when.proofs.AfterRangeLeft.{range-left-again}
 pub use Rattle.exactly_when.proofs.TakenDigits.{taken-are-digits}
 -- the definitions
-pub use Rattle.exactly_when.specs.Lines.{Smallest, NoneFits, Choice, Leaves, givenX, absorbedX}
-pub use Rattle.exactly_when.specs.Lines.{Line, no-input, no-digit, takes, no-room, giving-leaves, gives, absorbing-leaves, absorbs}
+pub use Rattle.exactly_when.specs.Lines.{Smallest, NoneFits, Choice, Leaves, givenX, absorbedX, givenDivisor, absorbedDivisor}
+pub use Rattle.exactly_when.specs.Lines.{Line, no-input, no-digit, takes, no-room, giving-unlisted, giving-leaves, gives, absorbing-unlisted, absorbing-leaves, absorbs}
 pub use Rattle.exactly_when.specs.Ends.{RefusedBy, input-system, output-system, state, Passes}
-pub use Rattle.exactly_when.specs.Ends.{InputLeftNone, ByteNoDigit, OutputFull, EntryLeaves, EndCase, RunCase, Over}
+pub use Rattle.exactly_when.specs.Ends.{InputLeftNone, ByteNoDigit, OutputFull, GivesOrAbsorbs, ListIsFull, EntryLeaves, EndCase, RunCase, Over}

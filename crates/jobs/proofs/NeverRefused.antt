@@ -1,5 +1,5 @@
 -- "A file that reads is never refused by opening or by the run": the matrix of a job that was read opens, and what a run judges before any step is in order, so that every
--- run of it, on any bytes and with any room, makes its steps.
+-- run of it, on any bytes, with any room and any list, makes its steps.
 use Rattle.whole.proofs.Laws.{_≡_, sym, subst, List, ℕ}
 use Rattle.digits.proofs.Laws.{systemOf}
 use Rattle.admission.proofs.Laws.{Admitted, admitted-only}
@@ -16,12 +16,17 @@ use Rattle.jobs.proofs.ReadsExactly.{reads-laid}
 pub record Runs (j : Job) : Type 0 where
   pub opening : openOf (j .matrix) .opening ≡ Opens
   pub judged : refusalOf (setting (systemOf (j .input)) (systemOf (j .output))) (openOf (j .matrix) .state) ≡ 0
-  pub steps : (input output : List ℕ) →
-      runOf (systemOf (j .input)) (systemOf (j .output)) (openOf (j .matrix) .state) input output ≡ stepsOf (setting (systemOf (j .input)) (systemOf (j .output))) (openOf (j .matrix) .state) input output
+  pub steps : (input output divisors : List ℕ) →
+      runOf (systemOf (j .input)) (systemOf (j .output)) (openOf (j .matrix) .state) input output divisors ≡
+      stepsOf (setting (systemOf (j .input)) (systemOf (j .output))) (openOf (j .matrix) .state) input output divisors
 
 rules-run : (c : Contents) → Rules c → Runs (readingOf c .job)
 unfolding readingOf
-rules-run c h = record { opening = o; judged = j; steps = λ input output. run-accepted (systemOf (c .input)) (systemOf (c .output)) (openOf (c .matrix) .state) input output j }
+rules-run c h = record {
+  opening = o;
+  judged = j;
+  steps = λ input output divisors. run-accepted (systemOf (c .input)) (systemOf (c .output)) (openOf (c .matrix) .state) input output divisors j;
+}
   where
     o : openOf (c .matrix) .opening ≡ Opens
     o = opens (c .matrix) Opens .1 (h .matrix .in-range, h .matrix .above)

@@ -4,15 +4,16 @@
 use Rattle.whole.proofs.Laws.{_≡_, sym, _∙_, ap, subst, List, _++_, ℕ, _*_, _<_, ℤ, pos, +ℤ-idl, _<ℤ_, gcd4, gap, ≤-of-<, down<}
 use Rattle.plane.proofs.Laws.{Pair, apply, multiplyOf, cancelOf, SamePoint, scaleOf, apply-multiply, point-moves, divisor-above, DetAbove}
 use Rattle.digits.proofs.Laws.{System}
+use Rattle.runs.proofs.Laws.{Deed}
 use Rattle.states.proofs.Laws.{Held, State, opened}
 use Rattle.steps.proofs.Laws.{setting}
 use mathlib.Core.List.{append-cancel-right}
 use native.Mathlib.Nat as N
-use Rattle.meaning.specs.Names.{namedFrom, productOf, determinantsOf, heldDigits, OfTheAbsorbed, UpToScale}
-use Rattle.meaning.specs.Session.{ProductHolds, NamedHolds, NumbersHold, ToCome}
+use Rattle.meaning.specs.Names.{namedFrom, productOf, determinantsOf, timesAll, heldDigits, OfTheAbsorbed, UpToScale}
+use Rattle.meaning.specs.Session.{ProductHolds, ScaleNamed, NamedHolds, NumbersHold, ToCome}
 use Rattle.meaning.proofs.Products.{product-names}
 use Rattle.meaning.proofs.OneStep.{job-scale, scale-same}
-use Rattle.meaning.proofs.Moments.{Meant}
+use Rattle.meaning.proofs.Moments.{Meant, MeantBy}
 
 -- what holds of the absorbed digits holds of any list that is theirs
 pub of-the : {bytes : List ℕ} {h : Held} {Claim : List ℕ → Type 0} → OfTheAbsorbed bytes h Claim → (absorbed : List ℕ) → absorbed ++ heldDigits h ≡ bytes → Claim absorbed
@@ -33,8 +34,8 @@ product-same a b given absorbed x c u t =
 
 -- ---- from any state on
 
-module _ {a b : System} {o : State} {k : ℕ} {taken given : List ℕ} {s : State} (h : Meant (setting a b) o k taken given s) where
-  pub meant-absorbed : {Claim : List ℕ → Type 0} → Claim (h .absorbed) → OfTheAbsorbed (heldDigits (o .held) ++ taken) (s .held) Claim
+module _ {a b : System} {o : State} (done : Deed) {s : State} (h : MeantBy (setting a b) o done s) where
+  pub meant-absorbed : {Claim : List ℕ → Type 0} → Claim (h .absorbed) → OfTheAbsorbed (heldDigits (o .held) ++ done .x) (s .held) Claim
   meant-absorbed c = record {
     absorbed = h .absorbed;
     with-the-held = h .with-the-held;
@@ -44,31 +45,37 @@ module _ {a b : System} {o : State} {k : ℕ} {taken given : List ℕ} {s : Stat
 
   -- both sides scaled by numbers above 0: those of `Meant`, and for another matrix c in the place of o's what makes it equal
   scaled : (n : ℕ) (c : List ℤ) → 0 < n →
-      scaleOf (pos n) (multiplyOf (productOf b given) (s .matrix)) ≡ scaleOf (determinantsOf b given) (multiplyOf c (productOf a (h .absorbed))) →
-      UpToScale (multiplyOf (productOf b given) (s .matrix)) (multiplyOf c (productOf a (h .absorbed)))
+      scaleOf (pos n) (multiplyOf (productOf b (done .digits)) (s .matrix)) ≡ scaleOf (determinantsOf b (done .digits)) (multiplyOf c (productOf a (h .absorbed))) →
+      UpToScale (multiplyOf (productOf b (done .digits)) (s .matrix)) (multiplyOf c (productOf a (h .absorbed)))
   scaled n c above e =
       let q = natural (h .outputs-above) in
       record { p = n; q = q .0; p-above = above; q-above = q .1; equal = e ∙ ap (λ (z : ℤ). scaleOf z (multiplyOf c (productOf a (h .absorbed)))) (sym (q .2)) }
 
-  pub meant-to-come : ToCome a b o taken given s
-  meant-to-come = meant-absorbed (λ t point. product-same a b given (h .absorbed) (s .matrix) (o .matrix) (scaled k (o .matrix) (h .scale-above) (h .scale)) t)
+  pub meant-to-come : ToCome a b o done s
+  meant-to-come = meant-absorbed (λ t point.
+      product-same a b (done .digits) (h .absorbed) (s .matrix) (o .matrix) (scaled (timesAll (done .divisors)) (o .matrix) (h .scale-above) (h .scale)) t)
 
 -- ---- from the opened state on
 
-module _ {a b : System} {m : List ℤ} (above : DetAbove m) {k : ℕ} {taken given : List ℕ} {s : State} (h : Meant (setting a b) (opened (cancelOf m)) k taken given s) where
+module _ {a b : System} {m : List ℤ} (above : DetAbove m) (done : Deed) {s : State} (h : MeantBy (setting a b) (opened (cancelOf m)) done s) where
   -- M is its divisor times M cancelled
-  job-product : UpToScale (multiplyOf (productOf b given) (s .matrix)) (multiplyOf m (productOf a (h .absorbed)))
-  job-product = scaled h (gcd4 m * k) m (N.mul-pos (divisor-above above) (h .scale-above))
-      (job-scale k (determinantsOf b given) m (multiplyOf (productOf b given) (s .matrix)) (productOf a (h .absorbed)) (h .scale))
+  job-product : UpToScale (multiplyOf (productOf b (done .digits)) (s .matrix)) (multiplyOf m (productOf a (h .absorbed)))
+  job-product =
+      let k = timesAll (done .divisors) in
+      scaled done h (gcd4 m * k) m (N.mul-pos (divisor-above above) (h .scale-above))
+      (job-scale k (determinantsOf b (done .digits)) m (multiplyOf (productOf b (done .digits)) (s .matrix)) (productOf a (h .absorbed)) (h .scale))
 
-  pub meant-product : ProductHolds a b m taken given s
-  meant-product = meant-absorbed h job-product
+  pub meant-product : ProductHolds a b m done s
+  meant-product = meant-absorbed done h job-product
 
-  pub meant-named : NamedHolds a b m taken given s
-  meant-named = meant-absorbed h (λ t point. record {
+  pub meant-scale : ScaleNamed a b m done s
+  meant-scale = meant-absorbed done h (h .scale)
+
+  pub meant-named : NamedHolds a b m done s
+  meant-named = meant-absorbed done h (λ t point. record {
     still-to-come = point-moves (h .sound .above) point;
-    same-number = product-same a b given (h .absorbed) (s .matrix) m job-product t;
+    same-number = product-same a b (done .digits) (h .absorbed) (s .matrix) m job-product t;
   })
 
-  pub meant-numbers : NumbersHold a b m taken given s
-  meant-numbers = meant-absorbed h (λ t point each first. h .intervals t each first)
+  pub meant-numbers : NumbersHold a b m done s
+  meant-numbers = meant-absorbed done h (λ t point each first. h .intervals t each first)

@@ -1,6 +1,6 @@
 -- What demand 3 says, for whoever stands on it: `use Rattle.meaning.proofs.Laws.{..}`.
 
-pub use Rattle.meaning.proofs.Sessions.{session-admitted, session-moment, session-sound, session-product, session-named, session-numbers, session-scale, moment-product, moment-named, moment-numbers, moment-scale, call-moment, call-product, call-named, call-numbers, newly-opened, called-again, called-by-contract}
+pub use Rattle.meaning.proofs.Sessions.{session-admitted, session-moment, session-sound, session-product, session-scale, session-named, session-numbers, moment-product, moment-scale, moment-named, moment-numbers, call-moment, call-product, call-scale, call-named, call-numbers, newly-opened, called-again, called-by-contract}
 pub use Rattle.meaning.proofs.Claims.{of-the}
 pub use Rattle.meaning.proofs.ToCome.{output-to-come, to-come-within-a-call, to-come-behind-a-call, session-accepted}
-pub use Rattle.meaning.proofs.Moments.{Sound, Meant, onward-means, moment-means, plan-is}
+pub use Rattle.meaning.proofs.Moments.{Sound, Meant, MeantBy, onward-means, moment-means, plan-is}

@@ -6,19 +6,19 @@
 --   giving b:  k·(P·X) = d·(C·Q) goes on by `gave-scale`. For the digits before b nothing changes, since G_b(X'(t)) is X(t) again, as a point. For b itself: t lies in
 --              closed W_held, so X(t) lies in closed X·W_held, and so in closed U_b, which includes it. This is why a digit that was given out never has to be recalled.
 --   absorbing: the equation goes on by `absorbed-scale`; and what is claimed at t is what was claimed before at F_h(t), since X'(t) is X(F_h(t)), as a point.
-use Rattle.whole.proofs.Laws.{_≡_, refl, sym, _∙_, ap, subst, List, [], _∷_, _++_, append-nil, append-assoc, Option, none, some, ℕ, _*_, _<_, arith, ltb-true, ltb, length, ℤ, pos, _<ℤ_, gcd4, ps-mul, up<, within?}
+use Rattle.whole.proofs.Laws.{_≡_, refl, sym, _∙_, ap, subst, List, [], _∷_, _++_, append-nil, append-assoc, Option, none, some, ℕ, _*_, _<_, arith, ltb-true, ltb, length, ℤ, pos, _<ℤ_, gcd4, ps-mul, up<}
 use Rattle.plane.proofs.Laws.{Pair, apply, multiplyOf, cancelOf, Closed, scaleOf, DetAbove, multiply-identity-left, multiply-identity-right, det-above-multiply, det-above-pseudoinverse, cancel-det-above, divisor-above, interval-moves, closed-moves, closed-same}
 use Rattle.inclusion.proofs.Laws.{included-says, says-included, closed-included}
 use Rattle.digits.proofs.Laws.{transformation, interval}
 use Rattle.admission.proofs.Laws.{Digits}
-use Rattle.runs.proofs.Laws.{Deed, nothing, Going, Plan, Each, took-x, gave, follow-each, each-test}
-use Rattle.states.proofs.Laws.{Held, Nothing, Digit, State, Stop, NotADigit, RangeLeft, HeldDigit, opened, loaded, given, absorbed}
-use Rattle.steps.proofs.Laws.{Setting, chosen, givenMatrix, absorbedMatrix, planBy, plan, chosen-below, chosen-fits}
+use Rattle.runs.proofs.Laws.{Deed, nothing, Going, Plan, Each, took-x, gave, andThen, follow-each, each-test}
+use Rattle.states.proofs.Laws.{Held, Nothing, Digit, State, Stop, NotADigit, HeldDigit, opened, loaded, given, absorbed}
+use Rattle.steps.proofs.Laws.{Setting, each-cancelled, chosen, givenMatrix, absorbedMatrix, planBy, plan, chosen-below, chosen-fits}
 use Rattle.opening.proofs.Laws.{Opens, Start, openOf, opens, hands-out}
 use native.Mathlib.Nat as N
-use Rattle.meaning.specs.Names.{productOf, determinantsOf, EachInItsInterval, HeldInItsInterval, heldDigits}
-use Rattle.meaning.specs.Moments.{Fits, Chooses, FreeLine, loading, holding, Onward, here, stepped, Moment, divisorBy, divisorOf, divisorsOf}
-use Rattle.meaning.proofs.Products.{product-append, determinants-append, each-append, each-same}
+use Rattle.meaning.specs.Names.{productOf, determinantsOf, timesAll, EachInItsInterval, HeldInItsInterval, heldDigits}
+use Rattle.meaning.specs.Moments.{Fits, Chooses, FreeLine, loading, holding, Onward, here, stepped, Moment}
+use Rattle.meaning.proofs.Products.{times-append, product-append, determinants-append, each-append, each-same}
 use Rattle.meaning.proofs.OneStep.{gave-scale, absorbed-scale, cancelled-same, gave-same}
 
 -- what a state of a session is: it keeps intervals, a held digit is one of the input system's, and its matrix is four numbers
@@ -135,36 +135,38 @@ module _ {y : Setting} {o : State} (inputs : Digits (y .input)) (outputs : Digit
               (h .intervals (apply f t) (before .0) (subst (λ (x : Held). HeldInItsInterval (y .input) x (apply f t)) (sym holds) (before .1)));
         }
 
-  -- wherever a line goes on
+-- what was done, from the state o to the state s
+abbrev pub MeantBy : Setting → State → Deed → State → Type 0
+MeantBy y o done s = Meant y o (timesAll (done .divisors)) (done .x) (done .digits) s
+
+-- wherever a line goes on
+module _ {y : Setting} {o : State} (inputs : Digits (y .input)) (outputs : Digits (y .output)) (done : Deed) {s : State} (h : MeantBy y o done s) where
   abbrev After : State → Deed → Type 0
-  After t d = Meant y o (k * divisorOf y s d) (taken ++ d .x) (out ++ d .digits) t
+  After t d = MeantBy y o (andThen done d) t
 
   line-means : {p : Plan State Stop} → FreeLine y s p → Each After nothing p
   unfolding Each
   line-means (loading free) = λ a. each-test After (took-x a) (ltb a (y .input .count)) (loaded s a) NotADigit
-      (λ w. meant-as (sym (N.mul-one k)) refl (sym (append-nil out)) (loads free a (ltb-true a (y .input .count) w)))
+      (λ w. meant-as (ap timesAll (sym (append-nil (done .divisors)))) refl (sym (append-nil (done .digits))) (loads inputs outputs h free a (ltb-true a (y .input .count) w)))
   line-means (holding a holds (some b) fits) =
-      let t = given s (cancelOf (givenMatrix (y .output) s b)) in
-      each-test After (gave b) (within? 1000000000 (t .matrix)) t RangeLeft (λ w. meant-as refl (sym (append-nil taken)) refl (gives a holds b fits))
+      let m = givenMatrix (y .output) s b in
+      each-cancelled (given s) m After (gave b) (λ w. meant-as (sym (times-append (done .divisors) (gcd4 m))) (sym (append-nil (done .x))) refl (gives inputs outputs h a holds b fits))
   line-means (holding a holds none fits) =
-      let t = absorbed s (cancelOf (absorbedMatrix (y .input) s a)) in
-      each-test After nothing (within? 1000000000 (t .matrix)) t RangeLeft
-      (λ w. meant-as (ap (λ (x : Held). k * divisorBy y s [] [] x) (sym holds)) (sym (append-nil taken)) (sym (append-nil out)) (absorbs a holds))
+      let m = absorbedMatrix (y .input) s a in
+      each-cancelled (absorbed s) m After nothing
+      (λ w. meant-as (sym (times-append (done .divisors) (gcd4 m))) (sym (append-nil (done .x))) (sym (append-nil (done .digits))) (absorbs inputs outputs h a holds))
 
-pub onward-means : {y : Setting} {o : State} → Digits (y .input) → Digits (y .output) → Sound y o → {taken out : List ℕ} {s : State} (steps : Onward y o taken out s) →
-    Meant y o (divisorsOf steps) taken out s
-unfolding divisorsOf
+pub onward-means : {y : Setting} {o : State} → Digits (y .input) → Digits (y .output) → Sound y o → {done : Deed} {s : State} → Onward y o done s → MeantBy y o done s
+unfolding timesAll
 onward-means inputs outputs sound here = here-means sound
-onward-means inputs outputs sound (stepped {p = p} steps line supply e) =
+onward-means inputs outputs sound (stepped {done} {p = p} steps line supply e) =
     let h = onward-means inputs outputs sound steps in
-    subst (Going (After inputs outputs h)) e (follow-each (After inputs outputs h) p (line-means inputs outputs h line) supply)
+    subst (Going (After inputs outputs done h)) e (follow-each (After inputs outputs done h) p (line-means inputs outputs done h line) supply)
 
 -- every moment: the opened state is M cancelled, with nothing held
-pub moment-means : {y : Setting} {m : List ℤ} → Digits (y .input) → Digits (y .output) → {taken out : List ℕ} {s : State} (moment : Moment y m taken out s) →
-    Meant y (opened (cancelOf m)) (divisorsOf (moment .steps)) taken out s
-moment-means {y} {m} inputs outputs {taken} {out} {s} moment =
-    subst (λ (r : Start). Meant y (r .state) (divisorsOf (moment .steps)) taken out s) (hands-out m Opens (moment .opens))
-    (onward-means inputs outputs (opened-sound y m (moment .opens)) (moment .steps))
+pub moment-means : {y : Setting} {m : List ℤ} → Digits (y .input) → Digits (y .output) → {done : Deed} {s : State} → Moment y m done s → MeantBy y (opened (cancelOf m)) done s
+moment-means {y} {m} inputs outputs {done} {s} moment =
+    subst (λ (r : Start). MeantBy y (r .state) done s) (hands-out m Opens (moment .opens)) (onward-means inputs outputs (opened-sound y m (moment .opens)) (moment .steps))
 
 -- ---- the plan of a run is one of these lines: the digit that it chooses fits. The test of inclusion is traded for the sentence that it decides, for which both
 -- intervals have to be intervals.

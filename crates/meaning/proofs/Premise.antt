@@ -7,18 +7,21 @@
 use Rattle.whole.proofs.Laws.{_≡_, refl, List, [], _∷_, ℕ, zero, suc, arith, T, ℤ, pos, up<}
 use Rattle.plane.proofs.Laws.{Pair, SamePoint, apply, Closed, scalePair, above-not-0, same-refl, same-sym, same-trans, same-scale, closed-same}
 use Rattle.inclusion.proofs.Laws.{closed?}
-use Rattle.digits.proofs.Laws.{System, transformationBy, intervalBy, minus, rowsR, rowsD, stored, systemOf}
+use Rattle.digits.proofs.Laws.{System, transformationBy, intervalBy, minus, rowsR, rowsB, rowsD, stored, systemOf}
 use Rattle.states.proofs.Laws.{Digit}
 use Rattle.meaning.specs.Names.{namedFrom, EachInItsInterval, HeldInItsInterval}
 use Rattle.meaning.proofs.Products.{named-same}
 
--- a number, and the systems R and D
+-- a number, and the systems R, B and D
 infix 70 _over_
 abbrev pub _over_ : ℤ → ℤ → Pair
 x over y = record { z0 = x; z1 = y }
 
 abbrev pub R : System
 R = systemOf (stored rowsR)
+
+abbrev pub B : System
+B = systemOf (stored rowsB)
 
 abbrev pub D : System
 D = systemOf (stored rowsD)

@@ -4,10 +4,17 @@
 -- The argument: each law is an induction over the digits in front; the equation for the rest is put behind the first digit's transformation. Then two facts that
 -- connect the pieces: the product of the transformations, applied to t, is the number named; and the numbers do not see which multiple stands for t ("Multiples are
 -- the same point").
-use Rattle.whole.proofs.Laws.{_≡_, refl, sym, _∙_, ap, subst, List, [], _∷_, _++_, _↔_, ℕ, ℤ, _*ℤ_, _⊗_, #, _≗_, law}
+use Rattle.whole.proofs.Laws.{_≡_, refl, sym, _∙_, ap, subst, List, [], _∷_, _++_, _↔_, ℕ, _*_, ℤ, _*ℤ_, _⊗_, #, _≗_, law}
 use Rattle.plane.proofs.Laws.{Pair, SamePoint, apply, determinantOf, multiplyOf, Closed, apply-identity, apply-multiply, multiply-assoc, multiply-identity-left, multiply-identity-right, same-moves, closed-same}
 use Rattle.digits.proofs.Laws.{System, transformation, interval}
-use Rattle.meaning.specs.Names.{namedFrom, productOf, determinantsOf, EachInItsInterval}
+use native.Mathlib.Nat as N
+use Rattle.meaning.specs.Names.{namedFrom, productOf, determinantsOf, timesAll, EachInItsInterval}
+
+-- one more divisor at the end
+pub times-append : (numbers : List ℕ) (g : ℕ) → timesAll (numbers ++ g ∷ []) ≡ timesAll numbers * g
+unfolding timesAll
+times-append [] g = N.mul-comm g 1
+times-append (h ∷ numbers) g = ap (λ (n : ℕ). h * n) (times-append numbers g) ∙ sym (N.mul-assoc h (timesAll numbers) g)
 
 module _ (y : System) where
   -- ---- one more digit at the end

@@ -6,50 +6,65 @@
 use Rattle.whole.proofs.Laws.{_≡_, refl, ap, List, [], _∷_, ℕ, _*_, arith, replicate, ℤ, pos, natAbs, at, gcdBy, gcd, gcd4, first, unlessRefused, up<, within?}
 use Rattle.plane.proofs.Laws.{Point, SamePoint, determinantOf, pseudoinverseOf, apply, multiplyOf, Closed, imageOf, cancelOf, scaleOf, above-not-0}
 use Rattle.inclusion.proofs.Laws.{closed?, same?, included?}
-use Rattle.digits.proofs.Laws.{transformationBy, intervalBy, rowsR, stored, systemOf}
+use Rattle.digits.proofs.Laws.{transformationBy, intervalBy, rowsIn, rowsR, rowsB, stored, systemOf}
 use Rattle.expanding.proofs.Laws.{formOf, expands?}
-use Rattle.admission.proofs.Laws.{rowVerdict, rowsVerdict, admissionOf, r-admitted}
-use Rattle.runs.proofs.Laws.{follow, runBy, run, judgedRun}
+use Rattle.admission.proofs.Laws.{rowVerdict, rowsVerdict, admissionOf, r-admitted, b-admitted}
+use Rattle.runs.proofs.Laws.{Deed, nothing, follow, runBy, run, judgedRun}
 use Rattle.states.proofs.Laws.{Nothing, Digit, State}
 use Rattle.fitting.proofs.Laws.{fittingOf}
 use Rattle.opening.proofs.Laws.{openOf}
 use Rattle.judging.proofs.Laws.{state?, refusalOf}
 use Rattle.unary.proofs.Laws.{courseOf}
-use Rattle.meaning.specs.Names.{namedFrom, productOf, EachInItsInterval, UpToScale}
+use Rattle.meaning.specs.Names.{namedFrom, productOf, determinantsOf, timesAll, EachInItsInterval, UpToScale}
 use Rattle.meaning.specs.Session.{Session}
-use Rattle.meaning.proofs.Sessions.{newly-opened, called-again, session-product, session-named, session-numbers}
+use Rattle.meaning.proofs.Sessions.{newly-opened, called-again, session-product, session-scale, session-named, session-numbers}
 use Rattle.meaning.proofs.Claims.{of-the}
-use Rattle.meaning.proofs.Premise.{_over_, R, computed, holds-at-1, held-holds}
+use Rattle.meaning.proofs.Premise.{_over_, R, B, computed, holds-at-1, held-holds}
 
 -- ---- the sessions
 
 abbrev four : ℕ → ℕ → ℕ → ℕ → List ℤ
 four a b c d = pos a ∷ pos b ∷ pos c ∷ pos d ∷ []
 
--- a session on R and R, opened for 2 1 1 2
-abbrev SessionR : List ℕ → List ℕ → State → Type 0
-SessionR taken given s = Session (systemOf (stored rowsR)) (systemOf (stored rowsR)) (four 2 1 1 2) taken given s
+-- what was done: the bytes taken, the digits given out, the divisors listed
+abbrev done : List ℕ → List ℕ → List ℕ → Deed
+done taken given listed = record { x = taken; y = []; digits = given; divisors = listed }
 
-pub new : SessionR [] [] (record { matrix = four 2 1 1 2; held = Nothing })
+-- a session on R and R, opened for 2 1 1 2
+abbrev SessionR : Deed → State → Type 0
+SessionR d s = Session (systemOf (stored rowsR)) (systemOf (stored rowsR)) (four 2 1 1 2) d s
+
+pub new : SessionR nothing (record { matrix = four 2 1 1 2; held = Nothing })
 unfolding openOf within? determinantOf cancelOf gcd4 gcd gcdBy
 new = newly-opened r-admitted r-admitted refl
 
-pub whole-word : SessionR (0 ∷ 0 ∷ 1 ∷ []) (0 ∷ 1 ∷ 1 ∷ []) (record { matrix = four 2 1 1 2; held = Nothing })
+pub whole-word : SessionR (done (0 ∷ 0 ∷ 1 ∷ []) (0 ∷ 1 ∷ 1 ∷ []) (1 ∷ 1 ∷ 1 ∷ 1 ∷ 1 ∷ 1 ∷ [])) (record { matrix = four 2 1 1 2; held = Nothing })
 unfolding stored admissionOf rowsVerdict rowVerdict within? gcd gcd4 gcdBy transformationBy intervalBy first unlessRefused closed? same? included? determinantOf
     pseudoinverseOf apply multiplyOf imageOf cancelOf formOf expands? state? fittingOf follow runBy run refusalOf judgedRun courseOf
-whole-word = called-again new (0 ∷ 0 ∷ 1 ∷ []) (replicate 8 0)
+whole-word = called-again new (0 ∷ 0 ∷ 1 ∷ []) (replicate 8 0) (replicate 9 0)
 
-pub half-way : SessionR (0 ∷ 0 ∷ 1 ∷ []) (0 ∷ 1 ∷ []) (record { matrix = four 3 0 1 1; held = Digit 1 })
+pub half-way : SessionR (done (0 ∷ 0 ∷ 1 ∷ []) (0 ∷ 1 ∷ []) (1 ∷ 1 ∷ 1 ∷ 1 ∷ [])) (record { matrix = four 3 0 1 1; held = Digit 1 })
 unfolding stored admissionOf rowsVerdict rowVerdict within? gcd gcd4 gcdBy transformationBy intervalBy first unlessRefused closed? same? included? determinantOf
     pseudoinverseOf apply multiplyOf imageOf cancelOf formOf expands? state? fittingOf follow runBy run refusalOf judgedRun courseOf
-half-way = called-again new (0 ∷ 0 ∷ 1 ∷ []) (replicate 2 0)
+half-way = called-again new (0 ∷ 0 ∷ 1 ∷ []) (replicate 2 0) (replicate 9 0)
 
-pub two-calls : SessionR (0 ∷ 0 ∷ 1 ∷ []) (0 ∷ 1 ∷ 1 ∷ []) (record { matrix = four 2 1 1 2; held = Nothing })
+pub two-calls : SessionR (done (0 ∷ 0 ∷ 1 ∷ []) (0 ∷ 1 ∷ 1 ∷ []) (1 ∷ 1 ∷ 1 ∷ 1 ∷ 1 ∷ 1 ∷ [])) (record { matrix = four 2 1 1 2; held = Nothing })
 unfolding stored admissionOf rowsVerdict rowVerdict within? gcd gcd4 gcdBy transformationBy intervalBy first unlessRefused closed? same? included? determinantOf
     pseudoinverseOf apply multiplyOf imageOf cancelOf formOf expands? state? fittingOf follow runBy run refusalOf judgedRun courseOf
-two-calls = called-again half-way [] (replicate 6 0)
+two-calls = called-again half-way [] (replicate 6 0) (replicate 9 0)
+
+-- P6: B to B, M 1 0 0 1, word 1. The divisors of its two steps 4 and 5 are 1 and 2.
+pub cancelled-word : Session B B (four 1 0 0 1) (done (1 ∷ []) (1 ∷ []) (1 ∷ 2 ∷ [])) (record { matrix = four 1 0 0 1; held = Nothing })
+unfolding openOf stored rowsIn rowsB admissionOf rowsVerdict rowVerdict within? gcd gcd4 gcdBy transformationBy intervalBy first unlessRefused closed? same? included? determinantOf
+    pseudoinverseOf apply multiplyOf imageOf cancelOf formOf expands? state? fittingOf follow runBy run refusalOf judgedRun courseOf
+cancelled-word = called-again (newly-opened b-admitted b-admitted refl) (1 ∷ []) (replicate 2 0) (replicate 3 0)
 
 -- ---- the product, in plain numbers
+
+-- 1·2 times (G_1·X) equals det G_1 times (M·F_1): both are 2 2 0 4
+pub cancelled-scale : scaleOf (pos 2) (four 1 1 0 2) ≡ scaleOf (pos 2) (four 1 1 0 2)
+unfolding multiplyOf productOf determinantsOf timesAll determinantOf cancelOf gcd4 gcd gcdBy transformationBy intervalBy stored rowsIn rowsB
+cancelled-scale = of-the (session-scale cancelled-word) (1 ∷ []) refl
 
 pub whole-product : UpToScale (four 4 5 5 7) (four 4 5 5 7)
 unfolding multiplyOf productOf transformationBy intervalBy stored

@@ -1,7 +1,7 @@
 -- What digits name. "If z is named by what follows digit a, F_a(z) is named from a on."
 use mathlib.Core.Path.{_≡_}
 use mathlib.Core.List.{List, [], _∷_, _++_}
-use Prim.Native.Nat.{ℕ, _<_}
+use Prim.Native.Nat.{ℕ, _*_, _<_}
 use lib.IntN.{ℤ, pos, _*ℤ_}
 use Rattle.plane.specs.Plane.{Pair, apply, determinantOf, multiplyOf, Closed}
 use Rattle.plane.specs.Scale.{scaleOf, identityOf}
@@ -22,6 +22,11 @@ productOf y (a ∷ digits) = multiplyOf (transformation y a) (productOf y digits
 unfoldable pub determinantsOf : System → List ℕ → ℤ
 determinantsOf y [] = pos 1
 determinantsOf y (a ∷ digits) = determinantOf (transformation y a) *ℤ determinantsOf y digits
+
+-- the product of the numbers of a list: of the divisors that were listed
+unfoldable pub timesAll : List ℕ → ℕ
+timesAll [] = 1
+timesAll (g ∷ numbers) = g * timesAll numbers
 
 -- "the number named from each digit on lies in that digit's closed interval", where t is named by what follows the digits
 unfoldable pub EachInItsInterval : System → List ℕ → Pair → Type 0

@@ -52,6 +52,8 @@ pub fn open(m: [i64; 4]) -> Start
             state: none,
         };
     }
-    let state = states::opened(cancelling::cancel(m));
+    let cancelled = cancelling::cancel(m);
+    let matrix = cancelled.matrix;
+    let state = states::opened(matrix);
     Start { opening, state }
 }

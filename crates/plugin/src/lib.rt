@@ -69,7 +69,7 @@ pub extern "C" fn sled_open(matrix: &[i64], state: &mut [i64]) -> u32
     open_call::open(matrix, state)
 }
 
-// Runs: takes bytes of the input and writes digits to the output until a step stops. Answers why; the state and the two counts, taken and written, are written back.
+// Runs: takes bytes of the input, writes digits to the output and lists divisors until a step stops. Answers why; the state and the three counts, taken, written and listed, are written back.
 #[no_mangle]
 pub extern "C" fn sled_run(
     in_digits: usize,
@@ -79,10 +79,11 @@ pub extern "C" fn sled_run(
     state: &mut [i64],
     input: &[u8],
     output: &mut [u8],
+    divisors: &mut [u64],
     counts: &mut [usize],
 ) -> u32
-    ensures { λ r. ⌜ afterRun r (now (state .exit)) (now (output .exit)) (now (counts .exit)) ≡
-        runCall (lentSystem «in_digits» (now («in_columns» .entry))) (lentSystem «out_digits» (now («out_columns» .entry))) (now (input .entry)) (now (state .entry)) (now (output .entry)) (now (counts .entry)) ⌝ }
+    ensures { λ r. ⌜ afterRun r (now (state .exit)) (now (output .exit)) (now (divisors .exit)) (now (counts .exit)) ≡
+        runCall (lentSystem «in_digits» (now («in_columns» .entry))) (lentSystem «out_digits» (now («out_columns» .entry))) (now (input .entry)) (now (state .entry)) (now (output .entry)) (now (divisors .entry)) (now (counts .entry)) ⌝ }
 {
     run_call::run(
         in_digits,
@@ -92,6 +93,7 @@ pub extern "C" fn sled_run(
         state,
         input,
         output,
+        divisors,
         counts,
     )
 }

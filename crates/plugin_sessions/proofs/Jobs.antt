@@ -1,10 +1,11 @@
 -- A job that is read opens a session: of `jobs::read` (`read-opens`), and of sled_read and then sled_open (`sled-read-opens`), whose numbers are lent to sled_run as the
 -- header says: found[0] and the input system's columns, found[1] and the output system's.
 -- The argument: what reads keeps the rules of document 01 (crates/jobs, crates/answers), so both systems are admitted and the matrix opens.
-use Rattle.whole.proofs.Laws.{_≡_, ap, _∙_, List, [], ℕ, length, ℤ, pos, eq-eqb, unlessRefused}
+use Rattle.whole.proofs.Laws.{_≡_, ap, _∙_, List, ℕ, length, ℤ, pos, eq-eqb, unlessRefused}
 use Rattle.plane.proofs.Laws.{entries}
 use Rattle.digits.proofs.Laws.{StoredSystem, systemOf, rowsOf, columns-length}
 use Rattle.admission.proofs.Laws.{Admitted, admitted-exactly}
+use Rattle.runs.proofs.Laws.{nothing}
 use Rattle.steps.proofs.Laws.{setting}
 use Rattle.opening.proofs.Laws.{Opens, openOf, opens}
 use Rattle.judging.proofs.Laws.{accepted}
@@ -23,7 +24,7 @@ use Rattle.plugin_sessions.specs.PluginSession.{PluginSession, opened}
 -- ---- read
 
 pub read-opens : (file : List ℕ) → Bytes file → readOf file .verdict ≡ Reads →
-    let j = readOf file .job in Session (systemOf (j .input)) (systemOf (j .output)) (j .matrix) [] [] (openOf (j .matrix) .state)
+    let j = readOf file .job in Session (systemOf (j .input)) (systemOf (j .output)) (j .matrix) nothing (openOf (j .matrix) .state)
 read-opens file b e =
     let j = readOf file .job in
     let r = read-never-refused file b e in
@@ -47,7 +48,7 @@ opens-matrix m old h five =
 
 pub sled-read-opens : (file : List ℕ) → Bytes file → (in-columns out-columns m : List ℤ) (found : List ℕ) →
     let r = readCall file in-columns out-columns m found in
-    r .number ≡ 0 → (old : List ℤ) → length old ≡ 5 → PluginSession (jobFrom r .input) (jobFrom r .output) (r .matrix) [] [] (openCall (r .matrix) old .numbers)
+    r .number ≡ 0 → (old : List ℤ) → length old ≡ 5 → PluginSession (jobFrom r .input) (jobFrom r .output) (r .matrix) nothing (openCall (r .matrix) old .numbers)
 sled-read-opens file b in-columns out-columns m found e old five =
     let r = readCall file in-columns out-columns m found in
     let job = sled-read-in-range file b in-columns out-columns m found .job e in

@@ -1,7 +1,7 @@
 -- Document 01, "The program": what it prints of a file, where `room` are the bytes that it has for the output digits. The lines are those of crates/lines.
 use mathlib.Core.List.{List}
 use Prim.Native.Nat.{ℕ}
-use lib.ListN.{take, drop}
+use lib.ListN.{take, drop, replicate}
 use Rattle.lines.specs.Lines.{answerText, refusedText}
 use Rattle.opening.specs.Opening.{openOf}
 use Rattle.digits.specs.Orders.{systemOf}
@@ -9,9 +9,14 @@ use Rattle.unary.specs.Run.{Ran, runOf}
 use Rattle.jobs.specs.Reading.{readOf}
 use Rattle.jobs.specs.Types.{Verdict, Reads, Refused, Job}
 
+-- The program lends a list that can't fill: it lists a number for each digit taken in and each written, 4096 + 8192 at most.
+abbrev pub programList : List ℕ
+programList = replicate 12288 0
+
 -- the word's bytes in the file, and its run from the opened state
 abbrev pub runIn : List ℕ → Job → List ℕ → Ran
-runIn file j room = runOf (systemOf (j .input)) (systemOf (j .output)) (openOf (j .matrix) .state) (take (j .word .length) (drop (j .word .start) file)) room
+runIn file j room =
+    runOf (systemOf (j .input)) (systemOf (j .output)) (openOf (j .matrix) .state) (take (j .word .length) (drop (j .word .start) file)) room programList
 
 abbrev pub ranText : Ran → List ℕ
 ranText r = answerText (r .answer) (r .output)

@@ -23,7 +23,9 @@ pub fn respond(file: &[u8], digits: &mut [u8], out: &mut [u8]) -> usize
             let state = start.state;
             let a = reading.job.word.start;
             let e = a + reading.job.word.length;
-            let answer = unary::run(input, output, state, &file[a..e], digits);
+            // It can't fill: taken + written numbers at most, 4096 + 8192.
+            let mut divisors = [0u64; 12288];
+            let answer = unary::run(input, output, state, &file[a..e], digits, &mut divisors);
             lines::put_answer(out, answer, digits)
         }
     }

@@ -10,22 +10,23 @@ ghost use Rattle.run_call.specs.RunCall.{afterRun, runCall};
 use numbers::WRONG_LENGTH;
 use unary::Answer;
 
-// Whether the lengths are right of what a run is lent: the columns of two systems, a state, and two counts.
+// Whether the lengths are right of what a run is lent: the columns of two systems, a state, and three counts.
 fn run_lengths(in_columns: usize, out_columns: usize, state: usize, counts: usize) -> bool
-    ensures { λ r. ⌜ r ≡ (eqb «in_columns» 128 && eqb «out_columns» 128 && eqb state 5 && eqb counts 2) ⌝ }
+    ensures { λ r. ⌜ r ≡ (eqb «in_columns» 128 && eqb «out_columns» 128 && eqb state 5 && eqb counts 3) ⌝ }
 {
-    (in_columns == 128) & (out_columns == 128) & (state == 5) & (counts == 2)
+    (in_columns == 128) & (out_columns == 128) & (state == 5) & (counts == 3)
 }
 
-// An answer: its number; the two counts, taken and written; and the state, unless the run was refused.
+// An answer: its number; the three counts, taken, written and listed; and the state, unless the run was refused.
 fn put_answer(a: Answer, state: &mut [i64], counts: &mut [usize]) -> u32
-    requires { ⌜ (length (now state) ≡ 5) × (length (now counts) ≡ 2) ⌝ }
-    ensures { λ r. ⌜ (r ≡ endNumber (a .stop)) × (now (state .exit) ≡ stateAfter (a .stop) (a .state) (now (state .entry))) × (now (counts .exit) ≡ a .taken .0 ∷ a .written .0 ∷ []) ⌝ }
+    requires { ⌜ (length (now state) ≡ 5) × (length (now counts) ≡ 3) ⌝ }
+    ensures { λ r. ⌜ (r ≡ endNumber (a .stop)) × (now (state .exit) ≡ stateAfter (a .stop) (a .state) (now (state .entry))) × (now (counts .exit) ≡ a .taken .0 ∷ a .written .0 ∷ a .listed .0 ∷ []) ⌝ }
 {
     let stop = a.stop;
     let s = a.state;
     counts[0] = a.taken.0;
     counts[1] = a.written.0;
+    counts[2] = a.listed.0;
     let number = states::end_number(stop) as u32;
     if states::refused(stop) {
         return number;
@@ -34,7 +35,7 @@ fn put_answer(a: Answer, state: &mut [i64], counts: &mut [usize]) -> u32
     number
 }
 
-// Runs: takes bytes of the input and writes digits to the output until a step stops. Answers why; the state and the two counts, taken and written, are written back.
+// Runs: takes bytes of the input, writes digits to the output and lists divisors until a step stops. Answers why; the state and the three counts, taken, written and listed, are written back.
 pub fn run(
     in_digits: usize,
     in_columns: &[i16],
@@ -43,10 +44,11 @@ pub fn run(
     state: &mut [i64],
     input: &[u8],
     output: &mut [u8],
+    divisors: &mut [u64],
     counts: &mut [usize],
 ) -> u32
-    ensures { λ r. ⌜ afterRun r (now (state .exit)) (now (output .exit)) (now (counts .exit)) ≡
-        runCall (lentSystem «in_digits» (now («in_columns» .entry))) (lentSystem «out_digits» (now («out_columns» .entry))) (now (input .entry)) (now (state .entry)) (now (output .entry)) (now (counts .entry)) ⌝ }
+    ensures { λ r. ⌜ afterRun r (now (state .exit)) (now (output .exit)) (now (divisors .exit)) (now (counts .exit)) ≡
+        runCall (lentSystem «in_digits» (now («in_columns» .entry))) (lentSystem «out_digits» (now («out_columns» .entry))) (now (input .entry)) (now (state .entry)) (now (output .entry)) (now (divisors .entry)) (now (counts .entry)) ⌝ }
 {
     if !run_lengths(
         in_columns.len(),
@@ -65,6 +67,7 @@ pub fn run(
         s,
         input,
         output,
+        divisors,
     );
     put_answer(a, state, counts)
 }

@@ -9,7 +9,7 @@ use lib.Signed.{_<ℤ_}
 use Rattle.whole.specs.Range.{Within}
 use Rattle.whole.specs.Divisor.{gcd4}
 use Rattle.plane.specs.Plane.{determinantOf}
-use Rattle.states.specs.Types.{Held, Nothing, Digit, State, Stop, InputUsed, NoRoom, NotADigit, RangeLeft, Refused}
+use Rattle.states.specs.Types.{Held, Nothing, Digit, State, Stop, InputUsed, ListFull, NoRoom, NotADigit, RangeLeft, Refused}
 
 -- ---- a state is built in these four ways (and at the C boundary, from a plug-in's numbers)
 
@@ -47,11 +47,12 @@ abbrev pub heldCount : Held → ℕ
 heldCount Nothing = 0
 heldCount (Digit d) = 1
 
--- ---- "Why a run stopped is one of five kinds, and the kind that refuses carries its number"
+-- ---- "Why a run stopped is one of five kinds, and the kind that refuses carries its number"; document 02 has a sixth: "15, the list is full"
 
--- document 01's number for each
+-- the number for each
 abbrev pub endNumber : Stop → ℕ
 endNumber InputUsed = 0
+endNumber ListFull = 15
 endNumber NoRoom = 20
 endNumber NotADigit = 21
 endNumber RangeLeft = 22
@@ -59,14 +60,15 @@ endNumber (Refused number) = number
 
 abbrev pub refused? : Stop → Bool
 refused? InputUsed = false
+refused? ListFull = false
 refused? NoRoom = false
 refused? NotADigit = false
 refused? RangeLeft = false
 refused? (Refused number) = true
 
--- the ends of a step: 0, 20, 21, 22, and never a refusal
+-- the ends of a step: 0, 15, 20, 21, 22, and never a refusal
 abbrev pub EndNumber : ℕ → Type 0
-EndNumber n = (n ≡ 0) ⊎ ((20 ≤ n) × (n ≤ 22))
+EndNumber n = (n ≡ 0) ⊎ ((n ≡ 15) ⊎ ((20 ≤ n) × (n ≤ 22)))
 
 pub record StepEnd (e : Stop) : Type 0 where
   pub number : EndNumber (endNumber e)

@@ -7,5 +7,5 @@ use Rattle.states.specs.declared.State as SState
 pub use EHeld.{Held}
 pub use VHeld.{Nothing, Digit}
 pub use EStop.{Stop}
-pub use VStop.{InputUsed, NoRoom, NotADigit, RangeLeft, Refused}
+pub use VStop.{InputUsed, ListFull, NoRoom, NotADigit, RangeLeft, Refused}
 pub use SState.{State}

@@ -1,7 +1,7 @@
-// What a session keeps between two calls, and why a run stops: document 01's section "The step", ends 0, 20, 21 and 22.
+// What a session keeps between two calls, and why a run stops: document 01's section "The step", ends 0, 20, 21 and 22, and document 02's end 15.
 // Public: `State`, `Held`, `Stop` and `end_number`. The rest is for our crates above.
 ghost use mathlib.Core.Path.{_≡_};
-ghost use Rattle.states.specs.State.{endNumber, refused?, opened as openedOf, loaded as loadedOf, given as givenOf, absorbed as absorbedOf};
+ghost use Rattle.states.specs.State.{endNumber, refused?, heldCount, opened as openedOf, loaded as loadedOf, given as givenOf, absorbed as absorbedOf};
 
 // A digit that was taken and is not yet absorbed, or none.
 pub enum Held {
@@ -54,21 +54,33 @@ pub fn absorbed(_s: State, matrix: [i64; 4]) -> State
     }
 }
 
-// Why a run stopped; `endNumber` gives document 01's number.
+// How many digits are held: none or one.
+pub fn held_count(held: Held) -> usize
+    ensures { λ r. ⌜ r ≡ heldCount held ⌝ }
+{
+    match held {
+        Held::Nothing => 0,
+        Held::Digit(_) => 1,
+    }
+}
+
+// Why a run stopped; `endNumber` gives the number.
 pub enum Stop {
     InputUsed,
+    ListFull,
     NoRoom,
     NotADigit,
     RangeLeft,
     Refused(u8),
 }
 
-// Document 01's number for the way in which a run stopped.
+// The number, of document 01 or 02, for the way in which a run stopped.
 pub fn end_number(stop: Stop) -> u8
     ensures { λ r. ⌜ r ≡ endNumber stop ⌝ }
 {
     match stop {
         Stop::InputUsed => 0,
+        Stop::ListFull => 15,
         Stop::NoRoom => 20,
         Stop::NotADigit => 21,
         Stop::RangeLeft => 22,
@@ -81,6 +93,7 @@ pub fn refused(stop: Stop) -> bool
 {
     match stop {
         Stop::InputUsed => false,
+        Stop::ListFull => false,
         Stop::NoRoom => false,
         Stop::NotADigit => false,
         Stop::RangeLeft => false,

@@ -1,9 +1,9 @@
 -- The step goes by plans, so it is lawful and steady (crates/runs): what is to be seen is that a plan pays for the digit that it holds. And why it stops.
-use Rattle.whole.proofs.Laws.{_≡_, refl, false, inl, inr, Option, none, some, ℕ, suc, _+_, _≤_, arith, ltb, within?}
-use Rattle.plane.proofs.Laws.{cancelOf}
+use Rattle.whole.proofs.Laws.{_≡_, refl, false, inl, inr, Option, none, some, ℕ, suc, _+_, _≤_, arith, ltb}
 use Rattle.runs.proofs.Laws.{Supply, Deed, nothing, cost, Halting, Lawful, Steady, Each, EachStop, took-x, gave, Always, each-test, follow-halts, stop-test, Cheap, planned-lawful, steady-always}
-use Rattle.states.proofs.Laws.{Held, Nothing, Digit, State, Stop, InputUsed, NotADigit, NoRoom, RangeLeft, loaded, given, absorbed, StepEnd, heldCount, endNumber, refused?}
+use Rattle.states.proofs.Laws.{Held, Nothing, Digit, State, Stop, InputUsed, ListFull, NotADigit, NoRoom, RangeLeft, loaded, given, absorbed, StepEnd, heldCount, endNumber, refused?}
 use Rattle.steps.specs.Step.{Setting, chosen, givenMatrix, absorbedMatrix, heldPlan, planBy, plan, plain}
+use Rattle.steps.proofs.Cancelled.{each-cancelled, stop-cancelled}
 
 abbrev held : State → ℕ
 held s = heldCount (s .held)
@@ -13,20 +13,20 @@ Costs n t d = suc (held t) ≤ cost d + n
 
 held-cheap : (y : Setting) (s : State) (h : ℕ) (o : Option ℕ) → held s ≡ 1 → Cheap held 1 (heldPlan y s h o)
 unfolding Each
-held-cheap y s h (some b) e = let t = given s (cancelOf (givenMatrix (y .output) s b)) in each-test (Costs 1) (gave b) (within? 1000000000 (t .matrix)) t RangeLeft (λ k. omega arith)
-held-cheap y s h none e = let t = absorbed s (cancelOf (absorbedMatrix (y .input) s h)) in each-test (Costs 1) nothing (within? 1000000000 (t .matrix)) t RangeLeft (λ k. omega arith)
+held-cheap y s h (some b) e = each-cancelled (given s) (givenMatrix (y .output) s b) (Costs 1) (gave b) (λ k. omega arith)
+held-cheap y s h none e = each-cancelled (absorbed s) (absorbedMatrix (y .input) s h) (Costs 1) nothing (λ k. omega arith)
 
 cheap : (y : Setting) (s : State) (h : Held) → held s ≡ heldCount h → Cheap held (heldCount h) (planBy y s h)
 unfolding Each
 cheap y s Nothing e = λ b. each-test (Costs 0) (took-x b) (ltb b (y .input .count)) (loaded s b) NotADigit (λ k. omega arith)
 cheap y s (Digit h) e = held-cheap y s h (chosen y s h) e
 
--- why a step stops: what holds of the four ends holds of every stop
-module _ (R : Stop → Type 0) (used : R InputUsed) (no-digit : R NotADigit) (no-room : R NoRoom) (left : R RangeLeft) where
+-- why a step stops: what holds of the five ends holds of every stop
+module _ (R : Stop → Type 0) (used : R InputUsed) (no-digit : R NotADigit) (no-room : R NoRoom) (full : R ListFull) (left : R RangeLeft) where
   held-stops : (y : Setting) (s : State) (h : ℕ) (o : Option ℕ) → EachStop R (heldPlan y s h o)
   unfolding EachStop
-  held-stops y s h (some b) = let t = given s (cancelOf (givenMatrix (y .output) s b)) in (no-room, stop-test R (within? 1000000000 (t .matrix)) t RangeLeft left)
-  held-stops y s h none = let t = absorbed s (cancelOf (absorbedMatrix (y .input) s h)) in stop-test R (within? 1000000000 (t .matrix)) t RangeLeft left
+  held-stops y s h (some b) = (no-room, stop-cancelled (given s) (givenMatrix (y .output) s b) R full left)
+  held-stops y s h none = stop-cancelled (absorbed s) (absorbedMatrix (y .input) s h) R full left
 
   plan-stops : (y : Setting) (s : State) (h : Held) → EachStop R (planBy y s h)
   unfolding EachStop
@@ -37,10 +37,11 @@ module _ (R : Stop → Type 0) (used : R InputUsed) (no-digit : R NotADigit) (no
   stops-with y s r = follow-halts R (plan y s) (plan-stops y s (s .held)) r
 
 pub step-stops : (y : Setting) (s : State) (r : Supply) → Halting StepEnd (plain y .step s r)
-step-stops = stops-with StepEnd (record { number = inl refl; not-refused = refl }) (between refl (omega arith) (omega arith)) (between refl (omega arith) (omega arith)) (between refl (omega arith) (omega arith))
+step-stops = stops-with StepEnd (record { number = inl refl; not-refused = refl }) (between refl (omega arith) (omega arith)) (between refl (omega arith) (omega arith))
+    (record { number = inr (inl refl); not-refused = refl }) (between refl (omega arith) (omega arith))
   where
     between : {e : Stop} → refused? e ≡ false → 20 ≤ endNumber e → endNumber e ≤ 22 → StepEnd e
-    between r h k = record { number = inr (h, k); not-refused = r }
+    between r h k = record { number = inr (inr (h, k)); not-refused = r }
 
 pub lawful : (y : Setting) → Lawful (plain y)
 lawful y = planned-lawful (λ s r. plan y s) held InputUsed (λ s r. cheap y s (s .held) refl)

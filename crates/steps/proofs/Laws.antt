@@ -3,10 +3,15 @@
 -- the step is one of those that crates/runs speaks of
 pub use Rattle.steps.proofs.Lawful.{lawful, steady, step-stops}
 -- what every step keeps; the chosen digit
-pub use Rattle.steps.proofs.Kept.{chosen-below, chosen-fits, Below, below-both, below-at, Kept, step-keeps}
+pub use Rattle.steps.proofs.Kept.{chosen-below, chosen-fits, Every, every-both, every-at, Below, Kept, step-keeps}
 -- numbers of digits that a system hasn't got change no step
 pub use Rattle.steps.proofs.SamePlan.{same-plan, step-holds}
+-- lines 4 and 5, where they cancel
+pub use Rattle.steps.proofs.Cancelled.{each-cancelled, stop-cancelled}
+-- what a step lists, and where it does not look at the list; where it finds the list full
+pub use Rattle.steps.proofs.Listing.{Lists, step-lists, any-list}
+pub use Rattle.steps.proofs.FullList.{Why, step-why}
 -- the definitions
 pub use Rattle.steps.specs.Made.{Follows, Ready, StaysBy, Usable, WorksWith, outcomeBy}
-pub use Rattle.steps.specs.Step.{Setting, absorbedMatrix, chosen, emitPlan, givenMatrix, heldPlan, oneWord, plain, plan, planBy, setting}
+pub use Rattle.steps.specs.Step.{DivisorNumber, Setting, absorbedMatrix, cancelledPlan, chosen, emitPlan, givenMatrix, heldPlan, oneWord, plain, plan, planBy, setting}
 pub use Rattle.steps.specs.Types.{Absorb, Give, Halt, Kind, Load, Move}

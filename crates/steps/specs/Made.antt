@@ -11,9 +11,9 @@ use Rattle.plane.specs.Plane.{determinantOf, multiplyOf}
 use Rattle.digits.specs.System.{System}
 use Rattle.digits.specs.Orders.{transformationAt, intervalAt, DigitThere}
 use Rattle.admission.specs.Admitted.{Digit as IsDigit, Digits}
-use Rattle.runs.specs.Supply.{Supply, nothing}
+use Rattle.runs.specs.Supply.{Supply}
 use Rattle.runs.specs.Machine.{Outcome, goes, halts}
-use Rattle.runs.specs.Plan.{Plan, took-x, gave, follow}
+use Rattle.runs.specs.Plan.{Plan, took-x, gaveBy, listed, follow}
 use Rattle.states.specs.Types.{State, Stop}
 use Rattle.steps.specs.Types.{Kind, Load, Give, Absorb, Halt, Move}
 use Rattle.states.specs.State.{StateRules}
@@ -30,15 +30,15 @@ halt e s = move (Halt e) s
 -- what a step of each kind did
 abbrev pub outcomeBy : Kind → State → Outcome State Stop
 outcomeBy (Load b) t = goes t (took-x b)
-outcomeBy (Give b) t = goes t (gave b)
-outcomeBy Absorb t = goes t nothing
+outcomeBy (Give b g) t = goes t (gaveBy b g)
+outcomeBy (Absorb g) t = goes t (listed g)
 outcomeBy (Halt e) t = halts e
 
 -- "A stop leaves the state as it was before that step."
 abbrev pub StaysBy : State → Kind → State → Type 0
 StaysBy s (Load b) t = Unit {0}
-StaysBy s (Give b) t = Unit {0}
-StaysBy s Absorb t = Unit {0}
+StaysBy s (Give b g) t = Unit {0}
+StaysBy s (Absorb g) t = Unit {0}
 StaysBy s (Halt e) t = t ≡ s
 
 -- the step m, from the state s, is the plan p, followed before a supply

@@ -1,20 +1,22 @@
 -- "One step, first line that applies", with document 01's five lines in their order. "F, W are the input system's; G, U the output system's." The step
 -- is a plan: it asks for a byte or a place where its line does, stops where that is missing, and changes something only where it goes on. So "A stop
--- leaves the state as it was before that step" is how it is read (crates/runs/specs/Plan.antt).
+-- leaves the state as it was before that step" is how it is read (crates/runs/specs/Plan.antt). From document 02, T-02: "a run lists them in a second
+-- lent buffer, one number for each step 4 or 5 made", and "15, the list is full, in steps 4 and 5, after 20 and before 22".
 use mathlib.Core.Bool.{cond}
 use mathlib.Core.List.{List, []}
 use mathlib.Core.Option.{Option, none, some}
-use Prim.Native.Nat.{ℕ}
+use Prim.Native.Nat.{ℕ, _≤_}
 use lib.Dec.{ltb}
 use lib.IntN.{ℤ}
 use Rattle.plane.specs.Plane.{multiplyOf, pseudoinverseOf, imageOf, cancelOf}
 use Rattle.whole.specs.Range.{within?}
+use Rattle.whole.specs.Divisor.{gcd4}
 use Rattle.digits.specs.System.{System, transformation, interval}
 use Rattle.fitting.specs.FirstFit.{fittingOf}
 use Rattle.runs.specs.Supply.{Supply}
 use Rattle.runs.specs.Machine.{Machine}
-use Rattle.runs.specs.Plan.{Plan, stop, go, byte-x, digit, planned}
-use Rattle.states.specs.Types.{Held, Nothing, Digit, State, Stop, InputUsed, NoRoom, NotADigit, RangeLeft}
+use Rattle.runs.specs.Plan.{Plan, stop, go, byte-x, digit, divisor, planned}
+use Rattle.states.specs.Types.{Held, Nothing, Digit, State, Stop, InputUsed, ListFull, NoRoom, NotADigit, RangeLeft}
 use Rattle.states.specs.State.{loaded, given, absorbed, heldCount}
 
 -- what a run is given and never changes
@@ -28,6 +30,10 @@ setting a b = record { input = a; output = b }
 -- "The range is tested after cancelling": go on to t, or where an entry leaves the range, "stop, end 22"
 abbrev pub ranged : State → Plan State Stop
 ranged t = cond (within? 1000000000 (t .matrix)) (go t) (stop RangeLeft)
+
+-- "X becomes .., cancelled": of the product m. Its divisor is listed: "the list is full" is asked first, then the range.
+abbrev pub cancelledPlan : (List ℤ → State) → List ℤ → Plan State Stop
+cancelledPlan new m = divisor ListFull (gcd4 m) (ranged (new (cancelOf m)))
 
 -- 1. "Nothing held and no input left: stop, end 0."
 -- 2. "Nothing held and the next byte is no digit of the input system: stop, end 21. The byte is not taken."
@@ -44,14 +50,14 @@ abbrev pub givenMatrix : System → State → ℕ → List ℤ
 givenMatrix output s b = multiplyOf (pseudoinverseOf (transformation output b)) (s .matrix)
 
 abbrev pub givePlan : System → State → ℕ → Plan State Stop
-givePlan output s b = digit NoRoom b (ranged (given s (cancelOf (givenMatrix output s b))))
+givePlan output s b = digit NoRoom b (cancelledPlan (given s) (givenMatrix output s b))
 
 -- 5. "No U_b does: X becomes X·F_held, cancelled, and nothing is held; if an entry leaves the range: stop, end 22."
 abbrev pub absorbedMatrix : System → State → ℕ → List ℤ
 absorbedMatrix input s h = multiplyOf (s .matrix) (transformation input h)
 
 abbrev pub absorbPlan : System → State → ℕ → Plan State Stop
-absorbPlan input s h = ranged (absorbed s (cancelOf (absorbedMatrix input s h)))
+absorbPlan input s h = cancelledPlan (absorbed s) (absorbedMatrix input s h)
 
 -- lines 4 and 5, where h is held, by the choice
 abbrev pub heldPlan : Setting → State → ℕ → Option ℕ → Plan State Stop
@@ -73,6 +79,10 @@ plan y s = planBy y s (s .held)
 abbrev pub plain : Setting → Machine State Stop
 plain y = planned (λ s r. plan y s) (λ s. heldCount (s .held)) InputUsed
 
--- what lies before it: the bytes of one word, and free places for digits
-abbrev pub oneWord : List ℕ → ℕ → Supply
-oneWord bytes room = record { x = bytes; y = []; room = room; list = 0 }
+-- what lies before it: the bytes of one word, and free places for digits and for divisors
+abbrev pub oneWord : List ℕ → ℕ → ℕ → Supply
+oneWord bytes room list = record { x = bytes; y = []; room = room; list = list }
+
+-- the divisors that a step can list: the entries of its product are not all 0, and lie within 200,000,000,000
+abbrev pub DivisorNumber : ℕ → Type 0
+DivisorNumber g = (1 ≤ g) × (g ≤ 200000000000)

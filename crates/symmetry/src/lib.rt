@@ -30,8 +30,10 @@ fn lowest_ends(w: [i64; 4]) -> [i64; 4]
     requires { ⌜ (Within 200 w) × (Interval w) ⌝ }
     ensures { λ r. ⌜ r ≡ lowestEnds w ⌝ }
 {
-    let x = cancelling::cancel([w[0], w[1], 0, 0]);
-    let y = cancelling::cancel([w[2], w[3], 0, 0]);
+    let left = cancelling::cancel([w[0], w[1], 0, 0]);
+    let right = cancelling::cancel([w[2], w[3], 0, 0]);
+    let x = left.matrix;
+    let y = right.matrix;
     [x[0], x[1], y[0], y[1]]
 }
 
@@ -49,7 +51,9 @@ pub fn turn(row: [i16; 8]) -> [i16; 8]
 {
     let f = product_of_three(ROTATION, row::four(row, 0), BACK);
     let w = products::image(ROTATION, row::four(row, 4));
-    row::joined(cancelling::cancel(f), lowest_ends(w))
+    let cancelled = cancelling::cancel(f);
+    let lowest = cancelled.matrix;
+    row::joined(lowest, lowest_ends(w))
 }
 
 // "F of 7−a at x is −F_a(−x)", and the interval by the same law, so that its right end becomes the left one.

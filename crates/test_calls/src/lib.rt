@@ -26,17 +26,28 @@ pub fn turned(rows: &[i16], columns: &mut [i16], digits: usize, back: &mut [i16]
 }
 
 // A run. It hands the state on.
-pub fn run(inputs: System, outputs: System, s: State, word: &[u8], room: &mut [u8]) -> State
-    ensures { λ r. ⌜ (r ≡ runOf (systemOf inputs) (systemOf outputs) s (now (word .entry)) (now (room .entry)) .answer .state) × (now (room .exit) ≡ runOf (systemOf inputs) (systemOf outputs) s (now (word .entry)) (now (room .entry)) .output) ⌝ }
+pub fn run(
+    inputs: System,
+    outputs: System,
+    s: State,
+    word: &[u8],
+    room: &mut [u8],
+    list: &mut [u64],
+) -> State
+    ensures { λ r. ⌜ (r ≡ runOf (systemOf inputs) (systemOf outputs) s (now (word .entry)) (now (room .entry)) (now (list .entry)) .answer .state) ×
+        (now (room .exit) ≡ runOf (systemOf inputs) (systemOf outputs) s (now (word .entry)) (now (room .entry)) (now (list .entry)) .output) ×
+        (now (list .exit) ≡ runOf (systemOf inputs) (systemOf outputs) s (now (word .entry)) (now (room .entry)) (now (list .entry)) .divisors) ⌝ }
 {
-    let a = unary::run(inputs, outputs, s, word, room);
+    let a = unary::run(inputs, outputs, s, word, room, list);
     let t = a.state;
     test_output::answer(a);
     test_output::bytes(room);
+    test_output::list(list);
     t
 }
 
-// The second piece of a word, into the room behind the w digits of the first.
+// The second piece of a word, into the room behind the w digits of the first, with the list behind its l divisors. (No run counts more than there is room and place for; the
+// tests say it again, so that nothing has to be proved here.)
 fn rest(
     inputs: System,
     outputs: System,
@@ -44,22 +55,44 @@ fn rest(
     word: &[u8],
     room: &mut [u8],
     w: usize,
+    list: &mut [u64],
+    l: usize,
 ) -> State {
     if room.len() < w {
         return s;
     }
-    let a = unary::run(inputs, outputs, s, word, &mut room[w..]);
+    if list.len() < l {
+        return s;
+    }
+    let a = unary::run(inputs, outputs, s, word, &mut room[w..], &mut list[l..]);
     let t = a.state;
     test_output::pieces(a);
     test_output::bytes(room);
+    test_output::list(list);
     t
 }
 
 // A word in two pieces, each a run of its own; the second is read here. The counts are not printed, so that every cut of a word has the same line.
-pub fn cut(inputs: System, outputs: System, s: State, word: &[u8], room: &mut [u8]) -> State {
+pub fn cut(
+    inputs: System,
+    outputs: System,
+    s: State,
+    word: &[u8],
+    room: &mut [u8],
+    list: &mut [u64],
+) -> State {
     let mut second = [0u8; 64];
     let n = test_input::word(&mut second);
-    let a = unary::run(inputs, outputs, s, word, room);
+    let a = unary::run(inputs, outputs, s, word, room, list);
     let t = a.state;
-    rest(inputs, outputs, t, &second[..n], room, a.written.0)
+    rest(
+        inputs,
+        outputs,
+        t,
+        &second[..n],
+        room,
+        a.written.0,
+        list,
+        a.listed.0,
+    )
 }

@@ -2,7 +2,7 @@
 // has what must be printed; expected.py writes both, and computes the lines in another way.
 use states::State;
 
-// A run: two systems, a state, a word, and a room as the bytes that stand there before.
+// A run: two systems, a state, a word, a room as the bytes that stand there before, and a list as the numbers that do. (A byte says how many these are: 255 at most.)
 fn run(kind: u8, before: State) -> State {
     let inputs = test_input::system();
     let outputs = test_input::system();
@@ -11,10 +11,26 @@ fn run(kind: u8, before: State) -> State {
     let n = test_input::word(&mut word);
     let mut room = [0u8; 64];
     let m = test_input::word(&mut room);
+    let mut list = [0u64; 255];
+    let k = test_input::list(&mut list);
     if kind == b'c' {
-        return test_calls::cut(inputs, outputs, s, &word[..n], &mut room[..m]);
+        return test_calls::cut(
+            inputs,
+            outputs,
+            s,
+            &word[..n],
+            &mut room[..m],
+            &mut list[..k],
+        );
     }
-    test_calls::run(inputs, outputs, s, &word[..n], &mut room[..m])
+    test_calls::run(
+        inputs,
+        outputs,
+        s,
+        &word[..n],
+        &mut room[..m],
+        &mut list[..k],
+    )
 }
 
 // Rows, the numbers that stand in the columns before, a count of digits, and those that stand in the rows that are written back.

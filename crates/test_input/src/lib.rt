@@ -123,6 +123,22 @@ pub fn numbers(buffer: &mut [i16]) -> usize
     n
 }
 
+// The same of numbers of eight bytes, as many as a byte before them says.
+pub fn list(buffer: &mut [u64]) -> usize
+    ensures { λ r. ⌜ (r ≤ length (now (buffer .exit))) × (r ≡ length (take r (now (buffer .exit)))) ⌝ }
+{
+    let n = wide(byte()) as usize;
+    if buffer.len() < n {
+        return 0;
+    }
+    let mut p = 0;
+    while p < n {
+        buffer[p] = eight();
+        p += 1;
+    }
+    n
+}
+
 // As many bytes as a byte before them says.
 pub fn word(buffer: &mut [u8]) -> usize
     ensures { λ r. ⌜ Counts r (now (buffer .exit)) ⌝ }

@@ -1,5 +1,5 @@
-// How the test programs print an answer: document 01's number, the counts, a state as its matrix and its held digit or `-`, and every byte of an output as it is
-// afterwards, so that a byte that was to stay can be seen to have stayed.
+// How the test programs print an answer: document 01's number, the counts, a state as its matrix and its held digit or `-`, and every byte of an output and every number of
+// a list as it is afterwards, so that what was to stay can be seen to have stayed.
 use libc::STDOUT_FILENO;
 use states::Held;
 use states::State;
@@ -50,13 +50,14 @@ fn end(e: Stop) {
     byte(states::end_number(e));
 }
 
-// How a run ended, how many bytes it took and digits it wrote, and the state that it left.
+// How a run ended, how many bytes it took, digits it wrote and divisors it listed, and the state that it left.
 pub fn answer(a: Answer) {
     let e = a.stop;
     let s = a.state;
     end(e);
     number(a.taken.0 as u64);
     number(a.written.0 as u64);
+    number(a.listed.0 as u64);
     state(s);
 }
 
@@ -84,4 +85,18 @@ pub fn bytes(b: &[u8]) {
         byte(b[i]);
         i += 1;
     }
+}
+
+// Each number of a list behind a blank.
+pub fn divisors(n: &[u64]) {
+    let mut i = 0;
+    while i < n.len() {
+        number(n[i]);
+        i += 1;
+    }
+}
+
+pub fn list(n: &[u64]) {
+    text(b" |");
+    divisors(n);
 }

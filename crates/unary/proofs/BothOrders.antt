@@ -8,10 +8,10 @@ use Rattle.judging.proofs.Laws.{refusalOf}
 use Rattle.unary.specs.Run.{runOf}
 use Rattle.unary.proofs.SameRun.{same-refusal, same-run}
 
-pub same-runs : (n : ℕ) (rows : List ℤ) (m : ℕ) (rows′ : List ℤ) (s : State) (input output : List ℕ) →
+pub same-runs : (n : ℕ) (rows : List ℤ) (m : ℕ) (rows′ : List ℤ) (s : State) (input output divisors : List ℕ) →
     (refusalOf (setting (asWritten n rows) (asWritten m rows′)) s ≡ refusalOf (setting (lent n (columnsOf rows)) (lent m (columnsOf rows′))) s) ×
-    (runOf (asWritten n rows) (asWritten m rows′) s input output ≡ runOf (lent n (columnsOf rows)) (lent m (columnsOf rows′)) s input output)
-same-runs n rows m rows′ s input output =
+    (runOf (asWritten n rows) (asWritten m rows′) s input output divisors ≡ runOf (lent n (columnsOf rows)) (lent m (columnsOf rows′)) s input output divisors)
+same-runs n rows m rows′ s input output divisors =
     let f = same-in-columns n rows in
     let g = same-in-columns m rows′ in
-    (same-refusal _ _ _ _ f g s, same-run _ _ _ _ f g s input output)
+    (same-refusal _ _ _ _ f g s, same-run _ _ _ _ f g s input output divisors)

@@ -17,19 +17,19 @@ module _ (a a′ b b′ : System) (f : SameDigits a a′) (g : SameDigits b b′
       let q = same-judgement b b′ g in
       λ i. unlessRefused (refusalNumber (p i)) (λ n. n) (unlessRefused (refusalNumber (q i)) (λ n. n) (cond (state? (f .count i) s) 0 12))
 
-  pub same-course : (input : List ℕ) (room : ℕ) → courseOf a b s input room ≡ courseOf a′ b′ s input room
+  pub same-course : (input : List ℕ) (room list : ℕ) → courseOf a b s input room list ≡ courseOf a′ b′ s input room list
   unfolding courseOf
-  same-course input room =
+  same-course input room list =
       let y = setting a b in
       let z = setting a′ b′ in
-      let r = oneWord input room in
-      either (plain y) Refused (refusalOf y) s r (λ q. q ≡ courseOf a′ b′ s input room)
+      let r = oneWord input room list in
+      either (plain y) Refused (refusalOf y) s r (λ q. q ≡ courseOf a′ b′ s input room list)
       (λ e. let k = accepted y s .0 e in
       same-runs (lawful y) (lawful z) (λ t. HeldDigit (a .count) (t .held))
       (λ t r h. (ap (λ (p : Plan State Stop). follow p r) (same-plan y z f g (admitted-few a (k .input)) (admitted-few b (k .output)) t h), step-holds y t r h)) s r (k .state .held-digit) ∙
       sym (accepted-run (plain z) Refused (refusalOf z) s r (sym same-refusal ∙ e)))
       (λ n e. sym (refused-run (plain z) Refused (refusalOf z) s r n (sym same-refusal ∙ e)))
 
-  pub same-run : (inp out : List ℕ) → runOf a b s inp out ≡ runOf a′ b′ s inp out
+  pub same-run : (inp out list : List ℕ) → runOf a b s inp out list ≡ runOf a′ b′ s inp out list
   unfolding runOf
-  same-run inp out = ap (λ (q : Course State Stop). leaves q out) (same-course inp (length out))
+  same-run inp out list = ap (λ (q : Course State Stop). leaves q out list) (same-course inp (length out) (length list))

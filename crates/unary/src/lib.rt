@@ -1,28 +1,51 @@
 // The unary algorithm: document 01's section "The step". `run` (opening: crates/opening; what is judged before any step: crates/judging; one step: crates/one_step, over the lines of crates/steps).
 // Public: `run` with the type of its answer. The rest is what our other crates call.
 ghost use mathlib.Core.Path.{_≡_};
+ghost use Prim.Native.Nat.{_+_, _-_, _<_, _≤_};
 ghost use Rattle.digits.specs.Orders.{lent, Columns, systemOf};
+ghost use Rattle.states.specs.State.{heldCount};
 ghost use Rattle.steps.specs.Step.{setting};
 ghost use Rattle.steps.specs.Made.{Ready};
-ghost use Rattle.unary.specs.Run.{stepsOf, runOf};
+ghost use Rattle.unary.specs.Run.{answered, ran, stepsOf, runOf};
 use digits::System;
+use states::Held;
 use states::State;
 use states::Stop;
 use steps::Kind;
 
-// The two counts, kept apart: the source's input pointer and its output pointer.
+// The counts, kept apart: the source's input pointer and its output pointer, and how many divisors are listed.
 pub struct Taken(pub usize);
 
 pub struct Written(pub usize);
+
+pub struct Listed(pub usize);
 
 pub struct Answer {
     pub stop: Stop,
     pub taken: Taken,
     pub written: Written,
+    pub listed: Listed,
     pub state: State,
 }
 
-// The steps of a run whose systems and state are judged. A digit is written only after its state is known to fit.
+// The answer behind i bytes taken and o digits written. How many divisors are listed follows from these two: one for each digit written and one for each absorbed, which was
+// taken, or was held at the start (then k is 0, and else 1), and is not held now.
+fn ended(stop: Stop, i: usize, o: usize, k: usize, state: State) -> Answer
+    requires { ⌜ (k ≤ i + o + 1 - heldCount (state .held)) × (i + o + 1 < 18446744073709551616) ⌝ }
+    ensures { λ r. ⌜ r ≡ answered stop i o (i + o + 1 - heldCount (state .held) - k) state ⌝ }
+{
+    let held = state.held;
+    Answer {
+        stop,
+        taken: Taken(i),
+        written: Written(o),
+        listed: Listed(i + o + 1 - states::held_count(held) - k),
+        state,
+    }
+}
+
+// The steps of a run whose systems and state are judged. A digit is written, and a divisor listed, only after the state is known to fit. The loop keeps no third count: where a
+// digit is held, i + o - k divisors are listed (see `ended`); where none is, a step asks for no place. (k is found here and not by `held_count`, for speed: docs/DECISIONS.md.)
 fn run_judged(
     input_count: usize,
     input_columns: &[i16],
@@ -31,11 +54,17 @@ fn run_judged(
     s: State,
     input: &[u8],
     output: &mut [u8],
+    divisors: &mut [u64],
 ) -> Answer
     requires { ⌜ (Columns (now «input_columns»)) × (Columns (now «output_columns»)) × (Ready (setting (lent «input_count» (now «input_columns»)) (lent «output_count» (now «output_columns»))) s) ⌝ }
-    ensures { λ r. ⌜ (r ≡ stepsOf (setting (lent «input_count» (now («input_columns» .entry))) (lent «output_count» (now («output_columns» .entry)))) s (now (input .entry)) (now (output .entry)) .answer) ×
-        (now (output .exit) ≡ stepsOf (setting (lent «input_count» (now («input_columns» .entry))) (lent «output_count» (now («output_columns» .entry)))) s (now (input .entry)) (now (output .entry)) .output) ⌝ }
+    ensures { λ r. ⌜ ran r (now (output .exit)) (now (divisors .exit)) ≡
+        stepsOf (setting (lent «input_count» (now («input_columns» .entry))) (lent «output_count» (now («output_columns» .entry)))) s (now (input .entry)) (now (output .entry)) (now (divisors .entry)) ⌝ }
 {
+    let held = s.held;
+    let k: usize = match held {
+        Held::Nothing => 1,
+        Held::Digit(_) => 0,
+    };
     let mut st = s;
     let mut i: usize = 0;
     let mut o: usize = 0;
@@ -50,27 +79,27 @@ fn run_judged(
             i,
             o,
             output.len(),
+            i + o,
+            divisors.len() + k,
         );
         let kind = m.kind;
         let t = m.state;
         st = t;
         match kind {
             Kind::Halt(stop) => {
-                return Answer {
-                    stop,
-                    taken: Taken(i),
-                    written: Written(o),
-                    state: t,
-                };
+                return ended(stop, i, o, k, t);
             }
             Kind::Load(_) => {
                 i += 1;
             }
-            Kind::Give(b) => {
+            Kind::Give(b, g) => {
+                divisors[i + o - k] = g;
                 output[o] = b;
                 o += 1;
             }
-            Kind::Absorb => {}
+            Kind::Absorb(g) => {
+                divisors[i + o - k] = g;
+            }
         }
     }
 }
@@ -84,10 +113,11 @@ pub fn run_lent(
     state: State,
     input: &[u8],
     output: &mut [u8],
+    divisors: &mut [u64],
 ) -> Answer
     requires { ⌜ (Columns (now «input_columns»)) × (Columns (now «output_columns»)) ⌝ }
-    ensures { λ r. ⌜ (r ≡ runOf (lent «input_count» (now («input_columns» .entry))) (lent «output_count» (now («output_columns» .entry))) state (now (input .entry)) (now (output .entry)) .answer) ×
-        (now (output .exit) ≡ runOf (lent «input_count» (now («input_columns» .entry))) (lent «output_count» (now («output_columns» .entry))) state (now (input .entry)) (now (output .entry)) .output) ⌝ }
+    ensures { λ r. ⌜ ran r (now (output .exit)) (now (divisors .exit)) ≡
+        runOf (lent «input_count» (now («input_columns» .entry))) (lent «output_count» (now («output_columns» .entry))) state (now (input .entry)) (now (output .entry)) (now (divisors .entry)) ⌝ }
 {
     let number = judging::refusal(
         input_count,
@@ -101,6 +131,7 @@ pub fn run_lent(
             stop: Stop::Refused(number),
             taken: Taken(0),
             written: Written(0),
+            listed: Listed(0),
             state,
         };
     }
@@ -112,12 +143,21 @@ pub fn run_lent(
         state,
         input,
         output,
+        divisors,
     )
 }
 
-// A run: bytes of the input are taken and digits are written to the output until a step stops. Of any two systems, any state, any input and any output at all.
-pub fn run(inputs: System, outputs: System, state: State, input: &[u8], output: &mut [u8]) -> Answer
-    ensures { λ r. ⌜ (r ≡ runOf (systemOf inputs) (systemOf outputs) state (now (input .entry)) (now (output .entry)) .answer) × (now (output .exit) ≡ runOf (systemOf inputs) (systemOf outputs) state (now (input .entry)) (now (output .entry)) .output) ⌝ }
+// A run: bytes of the input are taken, digits are written to the output and divisors are listed until a step stops. Of any two systems, any state, any input, any output and
+// any list at all.
+pub fn run(
+    inputs: System,
+    outputs: System,
+    state: State,
+    input: &[u8],
+    output: &mut [u8],
+    divisors: &mut [u64],
+) -> Answer
+    ensures { λ r. ⌜ ran r (now (output .exit)) (now (divisors .exit)) ≡ runOf (systemOf inputs) (systemOf outputs) state (now (input .entry)) (now (output .entry)) (now (divisors .entry)) ⌝ }
 {
     let input_columns = inputs.columns;
     let output_columns = outputs.columns;
@@ -129,5 +169,6 @@ pub fn run(inputs: System, outputs: System, state: State, input: &[u8], output: 
         state,
         input,
         output,
+        divisors,
     )
 }

@@ -11,7 +11,7 @@ use Rattle.unary.proofs.Laws.{Ran}
 use Rattle.text.specs.Text.{bytesOf}
 use Rattle.printed.specs.Text.{printed}
 use Prim.Native.String.{String}
-use Rattle.worked.specs.Claims.{Job, Ending, judgedOf, ranOf, divisorsOf, fileOf, IsIncluded, EndsOnly, IsOpened, IsJudged, IsRated, IsEnded, IsCancelled, IsPrinted}
+use Rattle.worked.specs.Claims.{Job, Ending, judgedOf, ranOf, fileOf, IsIncluded, EndsOnly, IsOpened, IsJudged, IsRated, IsEnded, IsCancelled, IsPrinted}
 use Rattle.worked.specs.Claims.{Claim, included, ends-only, opening, judged, rated, ended, cancelled, prints, Says}
 use Rattle.worked.proofs.Same.{sameNumber?, same-number, sameList?, same-list, sameHeld?, same-held, all?, each}
 
@@ -119,8 +119,13 @@ ended-holds j e t =
       held = same-held (ranOf j .answer .state .held) (e .held) (q .1 .1 .1 .0);
     }
 
-cancelled-holds : (j : Job) (ds : List ℕ) → sameList? eqb (divisorsOf j) ds ≡ true → IsCancelled j ds
-cancelled-holds j ds t = record { divisors = same-list eqb eqb-true (divisorsOf j) ds t }
+abbrev cancelledTests : Ran → List ℕ → List Bool
+cancelledTests r ds = eqb (r .answer .listed .0) (length ds) ∷ sameList? eqb (take (r .answer .listed .0) (r .divisors)) ds ∷ []
+
+cancelled-holds : (j : Job) (ds : List ℕ) → all? (cancelledTests (ranOf j) ds) ≡ true → IsCancelled j ds
+cancelled-holds j ds t =
+    let p = each (cancelledTests (ranOf j) ds) t in
+    record { listed = eqb-true (ranOf j .answer .listed .0) (length ds) (p .0); divisors = same-list eqb eqb-true (take (ranOf j .answer .listed .0) (ranOf j .divisors)) ds (p .1 .0) }
 
 -- ---- a job's file
 
@@ -141,7 +146,7 @@ passes? (opening m number x) = all? (openingTests (openOf m) number x)
 passes? (judged rows number) = eqb (refusalNumber (judgedOf rows)) number
 passes? (rated rows digit z over under) = let s = systemOf (stored rows) in all? (ratedTests (s .transformation digit) (s .interval digit) z over under)
 passes? (ended j e) = all? (endedTests (openOf (j .matrix)) (ranOf j) e)
-passes? (cancelled j ds) = sameList? eqb (divisorsOf j) ds
+passes? (cancelled j ds) = all? (cancelledTests (ranOf j) ds)
 passes? (prints j bytes lines) = all? (printsTests j bytes lines)
 
 pub holds : (c : Claim) → passes? c ≡ true → Says c

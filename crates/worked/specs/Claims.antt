@@ -1,11 +1,11 @@
 -- What a worked example can claim, and what each claim says. There are eight kinds: an interval is included in another; it is not, though both its ends lie
 -- there; a matrix opens, or is refused; a system is admitted, or is refused; a digit has a stated rate at a point inside its interval; a job ends in a stated
--- way; its steps were cancelled by stated divisors; its file has so many bytes and prints a stated text. Where document 01 has a sentence for an answer, the
+-- way; it listed stated divisors; its file has so many bytes and prints a stated text. Where document 01 has a sentence for an answer, the
 -- claim says that too.
 use mathlib.Core.Path.{_≡_}
 use mathlib.Core.List.{List, [], _∷_}
 use mathlib.Core.Logic.{_⊎_}
-use Prim.Native.Nat.{ℕ, zero, suc}
+use Prim.Native.Nat.{ℕ}
 use Prim.Native.String.{String}
 use lib.ListN.{length, take, replicate}
 use lib.IntN.{ℤ, pos}
@@ -17,26 +17,23 @@ use Rattle.admission.specs.Admitted.{SystemCase}
 use Rattle.digits.specs.Orders.{systemOf}
 use Rattle.digits.specs.BuiltIn.{stored}
 use Rattle.admission.specs.Types.{Admission}
-use Rattle.runs.specs.Supply.{Supply, spend}
-use Rattle.runs.specs.Machine.{Outcome, goes, halts, mostSteps}
-use Rattle.states.specs.Types.{Held, Nothing, State, Stop}
-use Rattle.steps.specs.Step.{Setting, setting, plain, oneWord}
+use Rattle.states.specs.Types.{Held, Nothing}
 use Rattle.opening.specs.Types.{Opens}
 use Rattle.states.specs.State.{endNumber}
 use Rattle.opening.specs.Opening.{openingNumber, openOf, OpeningCase}
 use Rattle.unary.specs.Run.{Ran, runOf}
-use Rattle.meaning.specs.Moments.{divisorOf}
 use Rattle.job_sections.specs.Layout.{layoutOf}
 use Rattle.text.specs.Text.{bytesOf}
 use Rattle.printed.specs.Text.{printed}
 
--- a job: two systems as tables of rows, a matrix, a word, and the room that is given for the output
+-- a job: two systems as tables of rows, a matrix, a word, the room that is given for the output, and the places of the list
 pub record Job : Type 0 where
   pub input : List (List ℤ)
   pub output : List (List ℤ)
   pub matrix : List ℤ
   pub word : List ℕ
   pub room : ℕ
+  pub list : ℕ
 
 -- how it ends: the end's number, the bytes taken, the digits written, and the state
 pub record Ending : Type 0 where
@@ -52,24 +49,8 @@ judgedOf rows = admissionOf (systemOf (stored rows))
 
 -- the run of a job, from the state that its matrix opens as
 abbrev pub ranOf : Job → Ran
-ranOf j = runOf (systemOf (stored (j .input))) (systemOf (stored (j .output))) (openOf (j .matrix) .state) (j .word) (replicate (j .room) 0)
-
--- the divisors by which the steps of a run are cancelled, in their order (`divisorOf`, crates/meaning/specs: where a byte is taken in it is 1)
-abbrev pub divisorsAfter : (State → Supply → List ℕ) → Setting → State → Supply → Outcome State Stop → List ℕ
-divisorsAfter more y s r (goes t d) = divisorOf y s d ∷ more t (spend d r)
-divisorsAfter more y s r (halts e) = []
-
--- of at most k steps
-abbrev pub divisorsBy : Setting → ℕ → State → Supply → List ℕ
-divisorsBy y zero s r = []
-divisorsBy y (suc k) s r = divisorsAfter (divisorsBy y k) y s r (plain y .step s r)
-
-abbrev pub divisorsOf : Job → List ℕ
-divisorsOf j =
-    let y = setting (systemOf (stored (j .input))) (systemOf (stored (j .output))) in
-    let s = openOf (j .matrix) .state in
-    let r = oneWord (j .word) (j .room) in
-    divisorsBy y (suc (mostSteps (plain y) s r)) s r
+ranOf j =
+    runOf (systemOf (stored (j .input))) (systemOf (stored (j .output))) (openOf (j .matrix) .state) (j .word) (replicate (j .room) 0) (replicate (j .list) 0)
 
 -- the job's file
 abbrev pub fileOf : Job → List ℕ
@@ -119,9 +100,10 @@ pub record IsEnded (j : Job) (e : Ending) : Type 0 where
   pub matrix : ranOf j .answer .state .matrix ≡ e .matrix
   pub held : ranOf j .answer .state .held ≡ e .held
 
--- the steps of the job's run were cancelled by these divisors
+-- the job's run listed these divisors, one for each step 4 or 5
 pub record IsCancelled (j : Job) (ds : List ℕ) : Type 0 where
-  pub divisors : divisorsOf j ≡ ds
+  pub listed : ranOf j .answer .listed .0 ≡ length ds
+  pub divisors : take (ranOf j .answer .listed .0) (ranOf j .divisors) ≡ ds
 
 -- the job's file has so many bytes, and the program prints this text of it, with the job's room
 pub record IsPrinted (j : Job) (bytes : ℕ) (lines : String) : Type 0 where

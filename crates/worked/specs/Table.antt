@@ -1,9 +1,9 @@
 -- Document 01, "Runs and tests to hold it against": P1 to P12, its two runs of D to R, and the two identity digits, which document 02 refuses with the plain
 -- binary system. Every number here is the documents'; where they leave one out (the matrix of P7 and P12, the room of every run but P5) it is that of the job
--- of P4, whose room is the program's. The rows on a hundred zeros are our own.
+-- of P4, whose room is the program's. The rows on a hundred zeros are our own, and so are those on the list of document 02's T-02.
 use mathlib.Core.List.{List, [], _∷_, _++_}
-use Prim.Native.Nat.{ℕ, zero, suc}
-use lib.ListN.{take}
+use Prim.Native.Nat.{ℕ, zero, suc, _+_}
+use lib.ListN.{length, take}
 use lib.IntN.{ℤ, pos}
 use Rattle.digits.specs.BuiltIn.{minus, row, rowsR, rowsB, rowsD}
 use Rattle.admission.specs.Named.{identities, plainBinary}
@@ -14,8 +14,12 @@ use Rattle.worked.specs.Claims.{Job, Ending, Claim, included, ends-only,
 abbrev pub four : ℤ → ℤ → ℤ → ℤ → List ℤ
 four a b c d = a ∷ b ∷ c ∷ d ∷ []
 
+-- a job with a list of so many places, and one whose list can't fill
+abbrev pub listing : ℕ → List (List ℤ) → List (List ℤ) → List ℤ → List ℕ → ℕ → Job
+listing list input output matrix word room = record { input = input; output = output; matrix = matrix; word = word; room = room; list = list }
+
 abbrev pub job : List (List ℤ) → List (List ℤ) → List ℤ → List ℕ → ℕ → Job
-job input output matrix word room = record { input = input; output = output; matrix = matrix; word = word; room = room }
+job input output matrix word room = listing (length word + room) input output matrix word room
 
 abbrev pub ends : ℕ → ℕ → List ℕ → List ℤ → Held → Ending
 ends number taken digits matrix held = record { number = number; taken = taken; digits = digits; matrix = matrix; held = held }
@@ -48,8 +52,18 @@ table =
     -- "P6 B to B, M 1 0 0 1, word 1: output 1, X back at 1 0 0 1 after a 2 is cancelled."
     ended (job rowsB rowsB (four (pos 1) (pos 0) (pos 0) (pos 1)) (1 ∷ []) 8192)
     (ends 0 1 (1 ∷ []) (four (pos 1) (pos 0) (pos 0) (pos 1)) Nothing) ∷
-    -- the steps that took the 1 in, gave the 1 out and absorbed the 1 were cancelled by 1, by 1 and by the 2
-    cancelled (job rowsB rowsB (four (pos 1) (pos 0) (pos 0) (pos 1)) (1 ∷ []) 8192) (1 ∷ 1 ∷ 2 ∷ []) ∷
+    -- T-02: the step that gave the 1 out was cancelled by 1, and the one that absorbed the 1 by the 2; the one that took it in lists nothing
+    cancelled (job rowsB rowsB (four (pos 1) (pos 0) (pos 0) (pos 1)) (1 ∷ []) 8192) (1 ∷ 2 ∷ []) ∷
+    cancelled (job rowsR rowsR (four (pos 2) (pos 1) (pos 1) (pos 2)) (0 ∷ 0 ∷ 1 ∷ []) 8192) (1 ∷ 1 ∷ 1 ∷ 1 ∷ 1 ∷ 1 ∷ []) ∷
+    -- T-02, "15, the list is full, in steps 4 and 5": P6 with a list of one place stops before it absorbs, and with none before it gives out
+    ended (listing 1 rowsB rowsB (four (pos 1) (pos 0) (pos 0) (pos 1)) (1 ∷ []) 8192)
+    (ends 15 1 (1 ∷ []) (four (pos 2) (minus 1) (pos 0) (pos 1)) (Digit 1)) ∷
+    cancelled (listing 1 rowsB rowsB (four (pos 1) (pos 0) (pos 0) (pos 1)) (1 ∷ []) 8192) (1 ∷ []) ∷
+    ended (listing 0 rowsB rowsB (four (pos 1) (pos 0) (pos 0) (pos 1)) (1 ∷ []) 8192)
+    (ends 15 1 [] (four (pos 1) (pos 0) (pos 0) (pos 1)) (Digit 1)) ∷
+    -- "after 20": with neither room nor list
+    ended (listing 0 rowsB rowsB (four (pos 1) (pos 0) (pos 0) (pos 1)) (1 ∷ []) 0)
+    (ends 20 1 [] (four (pos 1) (pos 0) (pos 0) (pos 1)) (Digit 1)) ∷
     -- "P7 R to R, first byte 4: end 21, counts 0 and 0."
     ended (job rowsR rowsR (four (pos 2) (pos 1) (pos 1) (pos 2)) (4 ∷ 0 ∷ []) 8192)
     (ends 21 0 [] (four (pos 2) (pos 1) (pos 1) (pos 2)) Nothing) ∷
@@ -68,6 +82,11 @@ table =
     (ends 0 0 [] (four (pos 2) (pos 1) (pos 1) (pos 2)) Nothing) ∷
     -- "D to R, M 3 −1 0 1, word 2 0 2 0 .. of 40 digits (it names 1/3): end 22, taken 30, written none, X 3 1 0 536870912, held 0."
     ended (job rowsD rowsR (four (pos 3) (minus 1) (pos 0) (pos 1)) (endless 20) 8192)
+    (ends 22 30 [] (four (pos 3) (pos 1) (pos 0) (pos 536870912)) (Digit 0)) ∷
+    -- T-02, "before 22": the same with a list that the 29 digits absorbed have filled; with one place more it ends 22
+    ended (listing 29 rowsD rowsR (four (pos 3) (minus 1) (pos 0) (pos 1)) (endless 20) 8192)
+    (ends 15 30 [] (four (pos 3) (pos 1) (pos 0) (pos 536870912)) (Digit 0)) ∷
+    ended (listing 30 rowsD rowsR (four (pos 3) (minus 1) (pos 0) (pos 1)) (endless 20) 8192)
     (ends 22 30 [] (four (pos 3) (pos 1) (pos 0) (pos 536870912)) (Digit 0)) ∷
     -- "Of 29 digits: end 0, same X, nothing held."
     ended (job rowsD rowsR (four (pos 3) (minus 1) (pos 0) (pos 1)) (take 29 (endless 15)) 8192)

@@ -7,16 +7,16 @@ use Rattle.cancelling.proofs.cancel.Tie as tie
 by-one : (z : ℤ) → z ≡ quotZ z (pos 1)
 by-one z = sym (quot-exact z 1 (one-dvd (natAbs z))) ∙ law 1 (λ x. # 1 ⊗ x ≗ x) tt (quotZ z (pos 1))
 
-kept : (m : List ℤ) {g : ℕ} → length m ≡ 4 → g ≡ 1 → g ≡ gcd4 m → m ≡ cancelOf m
+kept : (m : List ℤ) {g : ℕ} → length m ≡ 4 → g ≡ 1 → g ≡ gcd4 m → (1 ≡ gcd4 m) × (m ≡ cancelOf m)
 unfolding cancelOf
-kept m f one e = four m f ∙ four-equal (by-one (at m 0)) (by-one (at m 1)) (by-one (at m 2)) (by-one (at m 3)) ∙ ap (divided m) (sym one ∙ e)
+kept m f one e = (sym one ∙ e, four m f ∙ four-equal (by-one (at m 0)) (by-one (at m 1)) (by-one (at m 2)) (by-one (at m 3)) ∙ ap (divided m) (sym one ∙ e))
 
 asked : (m : List ℤ) {g : ℕ} → (Within 200000000000 m) × (0 < gcd4 m) → g ≡ gcd4 m → (Divides4 g m) × (0 < g) × (g < 9223372036854775808)
 asked m p e = rw e (gcd4-divides m, p .1, omega (arith, gcd4-within (p .0)))
 
 returns-2 : tie.Need-returns-2
 unfolding cancelOf
-returns-2 c = let d = c .before .before in c .quotients .ensures ∙ ap (divided (d .before .args .m)) (d .divisor .ensures)
+returns-2 c = let d = c .before .before in (d .divisor .ensures, c .quotients .ensures ∙ ap (divided (d .before .args .m)) (d .divisor .ensures))
 
 pub cancel-spec : {M : Type 1} → statement M
 cancel-spec = tie.close (tie.spec

@@ -56,7 +56,7 @@ give-requires c κs =
 
 -- the plan, by the choice
 abbrev by : (c : tie.After-fitting-digit) → Move → List ℕ → Option ℕ → Type 0
-by c m bytes o = let a = c .before .before .before .before .args in Follows (heldPlan (pair (c .before)) (a .s) (a .h) o) (a .s) (oneWord bytes (a .room - a .o)) m
+by c m bytes o = let a = c .before .before .before .before .args in Follows (heldPlan (pair (c .before)) (a .s) (a .h) o) (a .s) (oneWord bytes (a .room - a .o) (a .list - a .p)) m
 
 returns : tie.Need-returns
 returns c =
@@ -66,7 +66,7 @@ returns c =
 returns-2 : tie.Need-returns-2
 returns-2 c =
     let d = c .before .before .before in
-    λ bytes. subst (by d _ bytes) (sym (missing d (c .before .enum-told .given .1))) (c .absorb .ensures _)
+    λ bytes. subst (by d _ bytes) (sym (missing d (c .before .enum-told .given .1))) (c .absorb .ensures bytes _)
 
 pub emit-spec : {M : Type 1} → statement M
 emit-spec = tie.close (tie.spec

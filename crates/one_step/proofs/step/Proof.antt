@@ -19,10 +19,10 @@ emit-requires c κs = let p = c .before .before .before .before .pre in (works (
 -- the plan, by what is held
 abbrev by : tie.Start → Move → Held → Type 0
 by s m h = let a = s .args in
-    Follows (planBy (setting (lent (a .input-count) (now (a .input-columns))) (lent (a .output-count) (now (a .output-columns)))) (a .s) h) (a .s) (oneWord (drop (a .i) (now (a .input))) (a .room - a .o)) m
+    Follows (planBy (setting (lent (a .input-count) (now (a .input-columns))) (lent (a .output-count) (now (a .output-columns)))) (a .s) h) (a .s) (oneWord (drop (a .i) (now (a .input))) (a .room - a .o) (a .list - a .p)) m
 
 returns : tie.Need-returns
-returns c = let s = c .before .before .before .before in subst (by s (c .load .result)) (sym (c .before .enum-told .given .1)) (c .load .ensures _)
+returns c = let s = c .before .before .before .before in subst (by s (c .load .result)) (sym (c .before .enum-told .given .1)) (c .load .ensures _ _)
 
 -- the input system's count does not matter where a digit is held
 count-free : (n : ℕ) (columns : List ℤ) (b : System) (s : State) (h : ℕ) (o : Option ℕ) → heldPlan (setting (lent 0 columns) b) s h o ≡ heldPlan (setting (lent n columns) b) s h o

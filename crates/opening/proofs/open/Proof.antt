@@ -44,8 +44,8 @@ cancel-requires c κs =
 returns-2 : tie.Need-returns-2
 unfolding openOf
 returns-2 c =
-    let e = c .before .before in
-    (λ i. record { opening = opened e i; state = (c .opened2 .ensures ∙ ap openedState (c .before .cancel .ensures)) i }) ∙ sym (ap (startOf (e .before .before .before .args .m)) (matrix-opens e))
+    let e = c .before .before .before in
+    (λ i. record { opening = opened e i; state = (c .opened2 .ensures ∙ ap openedState (c .before .before .cancel .ensures .1)) i }) ∙ sym (ap (startOf (e .before .before .before .args .m)) (matrix-opens e))
 
 pub open-spec : {M : Type 1} → statement M
 open-spec = tie.close (tie.spec (λ c κs. search needs) (λ c κs. search needs) (λ c κs. search needs) returns cancel-requires (λ c κs. search needs) returns-2)

@@ -2,13 +2,13 @@
 -- room.
 use Rattle.whole.proofs.Laws.{needs, _≡_, refl, sym, ap, ap₂, _∙_, subst, List, ℕ, _+_, _-_, _≤_, arith, length, take, drop, length-append, length-take-le, now}
 use Rattle.digits.proofs.Laws.{systemOf}
-use Rattle.unary.proofs.Laws.{Ran, runOf, Answer, in-range}
+use Rattle.unary.proofs.Laws.{Ran, ran, runOf, in-range}
 use Rattle.opening.proofs.Laws.{openOf, Start}
 use Rattle.job_sections.proofs.Laws.{Bytes}
 use Rattle.jobs.proofs.Laws.{readOf, Verdict, Reading, word-inside}
 use Rattle.text.proofs.Laws.{Wrote, wrote-as, from-front}
 use Rattle.printed.specs.Responds.{Responds}
-use Rattle.printed.specs.Text.{runIn, ranText, printedBy, printed, filledOn, filledBy}
+use Rattle.printed.specs.Text.{programList, runIn, ranText, printedBy, printed, filledOn, filledBy}
 use Rattle.printed.proofs.respond.Statement.{statement}
 use Rattle.printed.proofs.respond.Tie as tie
 
@@ -43,22 +43,19 @@ inside c =
     (word-inside file bytes (told (r .read .ensures) (c .enum-told .given .1)))
 
 -- the run that was made is the job's
-abbrev ran-of : Answer → List ℕ → Ran
-ran-of a out = record { answer = a; output = out }
-
-ran : (c : tie.After-run) → let s = c .before .before .before .before .before .before .before .before .before .before .before .before .before .before .before in
-    ran-of (c .run .result) (c .run .last .1 .1 .1 .1 .0) ≡
+made : (c : tie.After-run) → let s = c .before .before .before .before .before .before .before .before .before .before .before .before .before .before .before .before in
+    ran (c .run .result) (c .run .last .1 .1 .1 .1 .0) (c .run .last .1 .1 .1 .1 .1 .0) ≡
     runIn (now (s .args .file)) (readOf (now (s .args .file)) .job) (now (s .args .digits))
-ran c =
-    let o = c .before .before .before .before .before in
+made c =
+    let o = c .before .before .before .before .before .before in
     let r = o .before .before .before .before .before .before in
     let s = r .before .before .before .before in
     let file = now (s .args .file) in
     let digits = now (s .args .digits) in
     let j = r .read .result .job in
     let n : j .word .start + j .word .length - j .word .start ≡ j .word .length = omega arith in
-    ap₂ ran-of (c .run .ensures .0) (c .run .ensures .1) ∙
-    ap₂ (λ (st : Start) (k : ℕ). runOf (systemOf (j .input)) (systemOf (j .output)) (st .state) (take k (drop (j .word .start) file)) digits) (o .«open» .ensures) n ∙
+    c .run .ensures ∙
+    ap₂ (λ (st : Start) (k : ℕ). runOf (systemOf (j .input)) (systemOf (j .output)) (st .state) (take k (drop (j .word .start) file)) digits programList) (o .«open» .ensures) n ∙
     ap (λ (a : Reading). runIn file (a .job) digits) (r .read .ensures)
 
 returns : tie.Need-returns
@@ -70,26 +67,26 @@ returns c =
 
 put-answer-requires : tie.Need-put-answer-requires
 put-answer-requires c κs =
-    let x = c .before .before .before .before in
-    let s = x .before .before .before .before .before .before .before .before .before .before .before .before .before .before .before in
+    let x = c .before .before .before .before .before in
+    let s = x .before .before .before .before .before .before .before .before .before .before .before .before .before .before .before .before in
     let file = now (s .args .file) in
     let j = readOf file .job in
-    let i = in-range (systemOf (j .input)) (systemOf (j .output)) (openOf (j .matrix) .state) (take (j .word .length) (drop (j .word .start) file)) (now (s .args .digits)) in
-    subst (λ (a : Ran). (40000 ≤ length (now (s .args .out))) × (length (a .output) ≤ 8192) × (a .answer .written .0 ≤ length (a .output))) (sym (ran x))
+    let i = in-range (systemOf (j .input)) (systemOf (j .output)) (openOf (j .matrix) .state) (take (j .word .length) (drop (j .word .start) file)) (now (s .args .digits)) programList in
+    subst (λ (a : Ran). (40000 ≤ length (now (s .args .out))) × (length (a .output) ≤ 8192) × (a .answer .written .0 ≤ length (a .output))) (sym (made x))
     (s .pre .1, omega (arith, i .room, s .pre), omega (arith, i .room, i .written))
 
 returns-2 : tie.Need-returns-2
 returns-2 c =
     let q = c .before .before in
-    let x = q .before .before .before .before .before in
-    let v = x .before .before .before .before .before .before .before .before .before in
+    let x = q .before .before .before .before .before .before in
+    let v = x .before .before .before .before .before .before .before .before .before .before in
     let r = v .before .before in
     answered (told (r .read .ensures) (v .enum-told .given .1)) (r .before .before .before .before .pre .1)
-    (wrote-as (ap ranText (ran x)) (q .put-answer .ensures)) (ap (λ (a : Ran). a .output) (ran x))
+    (wrote-as (ap ranText (made x)) (q .put-answer .ensures)) (ap (λ (a : Ran). a .output) (made x))
 
 pub respond-spec : {M : Type 1} → statement M
 respond-spec = tie.close (tie.spec
     (λ c κs. search needs) (λ c. search needs) (λ c κs. search needs) (λ c. search needs) (λ c κs. search needs)
     (λ c. omega (arith, inside (c .before .before .before .before .before .before))) (λ c. search needs) (λ c. search needs)
-    (λ c. inside (c .before .before .before .before .before .before)) (λ c κs. search needs) put-answer-requires (λ c. search needs) returns (λ c. search needs)
+    (λ c. inside (c .before .before .before .before .before .before)) (λ c. search needs) (λ c κs. search needs) put-answer-requires (λ c. search needs) returns (λ c. search needs)
     (λ c. search needs) returns-2)

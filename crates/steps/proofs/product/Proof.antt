@@ -10,7 +10,7 @@ cancel-requires c κs =
     (subst (Within 200000000000) (sym (c .multiply .ensures)) (p .range), subst (λ (m : List ℤ). 0 < gcd4 m) (sym (c .multiply .ensures)) (p .divisor))
 
 returns : tie.Need-returns
-returns c = c .cancel .ensures ∙ ap cancelOf (c .before .multiply .ensures)
+returns c = let e = c .before .multiply .ensures in (c .cancel .ensures .0 ∙ ap gcd4 e, c .cancel .ensures .1 ∙ ap cancelOf e)
 
 pub product-spec : {M : Type 1} → statement M
 product-spec = tie.close (tie.spec (λ c κs. search needs) cancel-requires returns)

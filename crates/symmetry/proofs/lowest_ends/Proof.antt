@@ -17,16 +17,16 @@ module _ {x0 x1 : ℤ} (h0 : Near 200 x0) (h1 : Near 200 x1) where
 returns : tie.Need-returns
 unfolding lowestEnds cancelOf gcd4 gcd gcdBy
 returns c =
-    let y = c .before .before .before .before in
+    let y = c .before .before .before .before .before .before in
     let x = y .before .before .before in
     let p = x .before .before .before .pre .0 in
-    let left = x .cancel .ensures ∙ ap cancelOf (same (p .n0) (p .n1)) in
-    let right = y .cancel2 .ensures ∙ ap cancelOf (same (p .n2) (p .n3)) in
+    let left = x .cancel .ensures .1 ∙ ap cancelOf (same (p .n0) (p .n1)) in
+    let right = y .cancel2 .ensures .1 ∙ ap cancelOf (same (p .n2) (p .n3)) in
     four-equal
-    (ok-back (c .before .before .before .t83 .given) ∙ ap (λ (l : List ℤ). at l 0) left)
-    (ok-back (c .before .before .t113 .given) ∙ ap (λ (l : List ℤ). at l 1) left)
-    (ok-back (c .before .t23 .given) ∙ ap (λ (l : List ℤ). at l 0) right)
-    (ok-back (c .t26 .given) ∙ ap (λ (l : List ℤ). at l 1) right)
+    (ok-back (c .before .before .before .t93 .given) ∙ ap (λ (l : List ℤ). at l 0) left)
+    (ok-back (c .before .before .t123 .given) ∙ ap (λ (l : List ℤ). at l 1) left)
+    (ok-back (c .before .t24 .given) ∙ ap (λ (l : List ℤ). at l 0) right)
+    (ok-back (c .t27 .given) ∙ ap (λ (l : List ℤ). at l 1) right)
 
 pub lowest-ends-spec : {M : Type 1} → statement M
 lowest-ends-spec = tie.close (tie.spec

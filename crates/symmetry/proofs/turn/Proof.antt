@@ -46,16 +46,16 @@ cancel-requires : tie.Need-cancel-requires
 cancel-requires c κs = rw (is-f c) (within-le (small-f c) tt, above c)
 
 lowest-ends-requires : tie.Need-lowest-ends-requires
-lowest-ends-requires c κs = rw (is-w (c .before)) (small-w (c .before), interval-moves rotation-above (start (c .before) .pre .interval))
+lowest-ends-requires c κs = let i = c .before .before in rw (is-w i) (small-w i, interval-moves rotation-above (start i .pre .interval))
 
-is-cancelled : (c : tie.After-lowest-ends) → c .before .cancel .result ≡ cancelOf (f (c .before .before))
-is-cancelled c = c .before .cancel .ensures ∙ ap cancelOf (is-f (c .before .before))
+is-cancelled : (c : tie.After-lowest-ends) → c .before .before .cancel .result .matrix ≡ cancelOf (f (c .before .before .before))
+is-cancelled c = c .before .before .cancel .ensures .1 ∙ ap cancelOf (is-f (c .before .before .before))
 
-is-lowest : (c : tie.After-lowest-ends) → c .lowest-ends .result ≡ lowestEnds (w (c .before .before))
-is-lowest c = c .lowest-ends .ensures ∙ ap lowestEnds (is-w (c .before .before))
+is-lowest : (c : tie.After-lowest-ends) → c .lowest-ends .result ≡ lowestEnds (w (c .before .before .before))
+is-lowest c = c .lowest-ends .ensures ∙ ap lowestEnds (is-w (c .before .before .before))
 
 joined-requires : tie.Need-joined-requires
-joined-requires c κs = rw (is-cancelled c, is-lowest c) (cancel-within (small-f (c .before .before)), within-le (lowest-within (small-w (c .before .before))) tt)
+joined-requires c κs = rw (is-cancelled c, is-lowest c) (cancel-within (small-f (c .before .before .before)), within-le (lowest-within (small-w (c .before .before .before))) tt)
 
 returns : tie.Need-returns
 unfolding turned

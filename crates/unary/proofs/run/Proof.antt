@@ -11,7 +11,7 @@ slice-aggregate-run-lent-2 c = search needs
 
 run-lent-requires : tie.Need-run-lent-requires
 run-lent-requires c κs =
-    (record { size = sym (slice-aggregate-run-lent (c .before .before)) }, record { size = sym (slice-aggregate-run-lent-2 (c .before)) })
+    (record { size = sym (slice-aggregate-run-lent (c .before .before .before)) }, record { size = sym (slice-aggregate-run-lent-2 (c .before .before)) })
 
 pub run-spec : {M : Type 1} → statement M
-run-spec = tie.close (tie.spec slice-aggregate-run-lent slice-aggregate-run-lent-2 run-lent-requires (λ c. search needs) (λ c. c .before .before .run-lent .ensures))
+run-spec = tie.close (tie.spec slice-aggregate-run-lent slice-aggregate-run-lent-2 run-lent-requires (λ c. search needs) (λ c. search needs) (λ c. c .before .before .before .before .run-lent .ensures))

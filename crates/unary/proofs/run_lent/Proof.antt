@@ -5,14 +5,14 @@ use Rattle.runs.proofs.Laws.{stopped}
 use Rattle.states.proofs.Laws.{Refused}
 use Rattle.steps.proofs.Laws.{Setting, setting}
 use Rattle.judging.proofs.Laws.{refusalOf, accepted-ready}
-use Rattle.unary.specs.Run.{Ran, answerOf}
+use Rattle.unary.specs.Run.{leaves}
 use Rattle.unary.proofs.Runs.{run-accepted, refused-untouched}
 use Rattle.unary.proofs.run_lent.Statement.{statement}
 use Rattle.unary.proofs.run_lent.Tie as tie
 
 -- the entry, and the two systems
 abbrev start : tie.After-refusal → tie.Start
-start r = r .before .before .before
+start r = r .before .before .before .before
 
 abbrev systems : tie.After-refusal → Setting
 systems r = let a = start r .args in setting (lent (a .input-count) (now (a .input-columns))) (lent (a .output-count) (now (a .output-columns)))
@@ -21,10 +21,8 @@ returns : tie.Need-returns
 returns c =
     let r = c .before in
     let a = start r .args in
-    let e = refused-untouched (systems r .input) (systems r .output) (a .state) (now (a .input)) (now (a .output)) (λ z. c .if1 .taken (r .refusal .ensures ∙ z)) in (
-      ap (λ (n : ℕ). answerOf (stopped (Refused n) (a .state))) (r .refusal .ensures) ∙ sym (ap (λ (q : Ran). q .answer) e),
-      sym (ap (λ (q : Ran). q .output) e),
-    )
+    ap (λ (n : ℕ). leaves (stopped (Refused n) (a .state)) (now (a .output)) (now (a .divisors))) (r .refusal .ensures) ∙
+    sym (refused-untouched (systems r .input) (systems r .output) (a .state) (now (a .input)) (now (a .output)) (now (a .divisors)) (λ z. c .if1 .taken (r .refusal .ensures ∙ z)))
 
 -- nothing is refused
 accepted : (c : tie.Else1) → refusalOf (systems (c .before)) (start (c .before) .args .state) ≡ 0
@@ -32,17 +30,17 @@ accepted c = sym (c .before .refusal .ensures) ∙ c .if1 .left
 
 run-judged-requires : tie.Need-run-judged-requires
 run-judged-requires c κs =
-    let r = c .before .before in
+    let r = c .before .before .before in
     let s = start r in
-    (s .pre .0, s .pre .1, accepted-ready (systems r) (s .args .state) (accepted (c .before)))
+    (s .pre .0, s .pre .1, accepted-ready (systems r) (s .args .state) (accepted (c .before .before)))
 
 returns-2 : tie.Need-returns-2
 returns-2 c =
-    let s = c .before .before in
-    let f = s .before .before in
+    let s = c .before .before .before in
+    let f = s .before .before .before .before in
+    let y = systems (f .before) in
     let a = start (f .before) .args in
-    let e = run-accepted (systems (f .before) .input) (systems (f .before) .output) (a .state) (now (a .input)) (now (a .output)) (accepted f) in
-    (s .run-judged .ensures .0 ∙ sym (ap (λ (q : Ran). q .answer) e), s .run-judged .ensures .1 ∙ sym (ap (λ (q : Ran). q .output) e))
+    s .before .run-judged .ensures ∙ sym (run-accepted (y .input) (y .output) (a .state) (now (a .input)) (now (a .output)) (now (a .divisors)) (accepted f))
 
 pub run-lent-spec : {M : Type 1} → statement M
-run-lent-spec = tie.close (tie.spec (λ c κs. search needs) returns run-judged-requires (λ c. search needs) returns-2)
+run-lent-spec = tie.close (tie.spec (λ c κs. search needs) returns run-judged-requires (λ c. search needs) (λ c. search needs) returns-2)
