@@ -1,16 +1,25 @@
 #!/usr/bin/env python3
-"""Stored cases of reading: each refusal number in each section where a file can give it, and jobs at the limits, with the answers that document 01 gives.
+"""Stored cases of reading: each refusal number in each section where a file can give it, and jobs at the limits, with the answers that documents 01 and 02 give.
 
-  crates/test_files/expected.py            writes stdin (the files, each after its length) and stdout (what must be printed) beside this file
+  crates/test_files/expected.py            writes stdin (the files, each after its length and before the number of places in its list) and stdout (what must be
+                                           printed) beside this file
   crates/test_files/expected.py --check    says whether the two files are what it would write
+
+A file that reads prints a fourth line, of a second run with that list: end, digits taken, digits written, numbers listed, and the numbers.
 """
 import os, struct, sys
 
 R = [[1, 0, 1, 1, 0, 1, 1, 1], [1, 1, 0, 1, 1, 1, 1, 0], [1, -1, 0, 1, 1, 0, 1, -1], [1, 0, -1, 1, -1, 1, 0, 1]]
+B = [[1, 0, 1, 2, -1, 3, 1, 1], [1, 1, 0, 2, 0, 1, 2, 1], [2, 0, 1, 1, 1, 2, 1, 0], [2, 1, 0, 1, 1, 1, 3, -1],
+     [2, -1, 0, 1, 3, 1, 1, -1], [2, 0, -1, 1, 1, 0, 1, -2], [1, -1, 0, 2, -2, 1, 0, 1], [1, 0, -1, 2, -1, 1, 1, 3]]
+D = [[1, -1, 0, 2, -2, 1, 0, 1], [1, 0, 0, 2, -1, 2, 1, 2], [1, 1, 0, 2, 0, 1, 2, 1], [2, 0, 0, 1, 3, 2, 3, -2]]
 IDENTITIES = [[1, 0, 0, 1, 0, 1, 1, 0], [1, 0, 0, 1, 1, 0, 0, -1]]
 PLAIN_BINARY = [[1, -1, 0, 2, -1, 1, 0, 1], [1, 1, 0, 2, 0, 1, 1, 1], [2, 0, 0, 1, 1, 1, 1, -1]]  # of document 004: 2x on (1, −1) does not expand at 5/4
 HUNDRED = R + [[1, 0, 100, 1, 0, 1, 1, 100]]                 # R, and a digit that stands for a hundred digits 0
-M = [2, 1, 1, 2]
+TWO = R + [[1, 0, 2, 1, 0, 1, 1, 2]]                         # R, and a digit that stands for two digits 0
+LARGE = R + [[100, -99, 100, 100, 0, 1, 1, 1]]               # R, and a digit of determinant 19900
+M, ONE = [2, 1, 1, 2], [1, 0, 0, 1]
+LONGEST = 4096 + 8192 + 1                                    # a list of so many places is never full
 
 
 def two(n):
@@ -43,9 +52,15 @@ def changed(row, place, value):
     return rows
 
 
+def reads(file, text, *lists):
+    """A case for each list: its number of places, the end and the three counts with it, and the numbers listed."""
+    return [(file, text + '\n' + ' '.join([counts] + [str(n) for n in numbers]), places) for places, counts, numbers in lists]
+
+
 whole = job()
 starts = [0, 66, 132, 142]                                   # where each section's count stands
-cases = [(whole, '0 3 3\n2 1 1 2 -\n0 1 1')]
+cases = reads(whole, '0 3 3\n2 1 1 2 -\n0 1 1', *[(places, '0 3 3 6', [1] * 6) for places in (LONGEST, 7, 6)],
+              (5, '15 3 3 5', [1] * 5), (4, '15 3 2 4', [1] * 4), (3, '15 2 2 3', [1] * 3), (2, '15 1 2 2', [1] * 2), (1, '15 1 1 1', [1]), (0, '15 1 0 0', []))
 for section, start in enumerate(starts):                     # 1: a count, or a section, is not whole
     cases += [(whole[:start], f'refused 1 {section}'), (whole[:start + 1], f'refused 1 {section}'), (whole[:start + 2], f'refused 1 {section}')]
     end = (starts + [147])[section + 1]
@@ -76,14 +91,27 @@ cases += [
     (job(a=IDENTITIES, b=R[:3]), 'refused 18 0'), (job(a=PLAIN_BINARY, b=[]), 'refused 18 0'), (job(a=R[:3], b=IDENTITIES), 'refused 10 0'),
     (job(b=IDENTITIES, m=[1, 1, 1, 1]), 'refused 18 1'), (job(b=PLAIN_BINARY, m=[2, 1, 1]), 'refused 18 1'), (job(a=IDENTITIES, b=IDENTITIES) + b'\0', 'refused 18 0'),
     (job(a=IDENTITIES)[:34], 'refused 18 0'), (job(a=IDENTITIES)[:33], 'refused 1 0'),   # a section's contents when it is whole, before the next one's count
-    (job(a=HUNDRED, m=[1, 0, 0, 1], w=[4] * 2), '0 2 200\n1 0 0 1 -\n' + ' '.join(['0'] * 200)),
-    (job(b=HUNDRED), '0 3 3\n2 1 1 2 -\n0 1 1'),
-    (job(w=[]), '0 0 0\n2 1 1 2 -\n'), (job(w=[4]), '21 0 0\n2 1 1 2 -\n'),
-    (job(m=[1000, 0, 0, 1], w=[]), '0 0 0\n1000 0 0 1 -\n'), (job(m=[2, 0, 0, 2], w=[]), '0 0 0\n1 0 0 1 -\n'),
+]
+third = [2, 0] * 20
+cases += [
+    *reads(job(a=HUNDRED, m=ONE, w=[4] * 2), '0 2 200\n1 0 0 1 -\n' + ' '.join(['0'] * 200),
+           (256, '0 2 200 202', [1] * 202), (202, '0 2 200 202', [1] * 202), (201, '15 2 200 201', [1] * 201), (1, '15 1 1 1', [1])),
+    *reads(job(b=HUNDRED), '0 3 3\n2 1 1 2 -\n0 1 1', (6, '0 3 3 6', [1] * 6)),
+    *reads(job(w=[]), '0 0 0\n2 1 1 2 -\n', (0, '0 0 0 0', []), (9, '0 0 0 0', [])), *reads(job(w=[4]), '21 0 0\n2 1 1 2 -\n', (0, '21 0 0 0', [])),
+    *reads(job(m=[1000, 0, 0, 1], w=[]), '0 0 0\n1000 0 0 1 -\n', (1, '0 0 0 0', [])), *reads(job(m=[2, 0, 0, 2], w=[]), '0 0 0\n1 0 0 1 -\n', (1, '0 0 0 0', [])),
+    *reads(job(a=B, b=B, m=ONE, w=[1]), '0 1 1\n1 0 0 1 -\n1', (3, '0 1 1 2', [1, 2]), (2, '0 1 1 2', [1, 2]), (1, '15 1 1 1', [1]), (0, '15 1 0 0', [])),
+    *reads(job(a=LARGE, m=[100, 99, -100, 100], w=[4]), '0 1 0\n1 0 0 1 -\n', (1, '0 1 0 1', [19900]), (0, '15 1 0 0', [])),
+    # 15 before 22
+    *reads(job(a=D, m=[3, -1, 0, 1], w=third), '22 30 0\n3 1 0 536870912 0\n', (30, '22 30 0 29', [1] * 29), (29, '15 30 0 29', [1] * 29), (28, '15 29 0 28', [1] * 28)),
+    # 20 before 15, and the longest list that a run can fill
+    *reads(job(a=HUNDRED, m=ONE, w=[4] * 100), '20 82 8192\n1 0 -92 1 4\n' + ' '.join(['0'] * 8192), (8273, '20 82 8192 8273', [1] * 8273)),
+    *reads(job(a=TWO, m=ONE, w=[4] * 4096), '0 4096 8192\n1 0 0 1 -\n' + ' '.join(['0'] * 8192), (12288, '0 4096 8192 12288', [1] * 12288)),
     (b'', 'refused 1 0'),
 ]
+# The list of a file that is refused is passed over, however long it is.
+cases = [case if len(case) == 3 else (*case, (0, 1, 256, LONGEST)[n % 4]) for n, case in enumerate(cases)]
 here = os.path.dirname(os.path.abspath(__file__))
-files = {'stdin': b''.join(struct.pack('<I', len(f)) + f for f, _ in cases), 'stdout': ''.join(line + '\n' for _, line in cases).encode()}
+files = {'stdin': b''.join(struct.pack('<I', len(f)) + f + two(places) for f, _, places in cases), 'stdout': ''.join(text + '\n' for _, text, _ in cases).encode()}
 if sys.argv[1:] == ['--check']:
     same = all(open(os.path.join(here, name), 'rb').read() == data for name, data in files.items())
     print(f'{len(cases)} files: the same' if same else 'stdin or stdout is not what expected.py writes')

@@ -3,6 +3,7 @@
 use crate::chance::Chance;
 use crate::damage;
 use crate::draw_full::full_output;
+use crate::draw_list::places;
 use crate::draw_stretching::{decimal, stretching, SCALING};
 use crate::draw_systems::*;
 use crate::plane::{determinant, product, Matrix};
@@ -56,10 +57,13 @@ pub fn kind_of(number: u64) -> (&'static Kind, usize) {
     unreachable!("the shares add up to {SLOTS}")
 }
 
-/// The job file of a case.
-pub fn case(seed: u64, number: u64) -> Vec<u8> {
+/// The job file of a case, and how many places its list has.
+pub fn case(seed: u64, number: u64) -> (Vec<u8>, usize) {
     let (kind, turn) = kind_of(number);
-    kind.2(&mut Chance::of_case(seed, number), turn)
+    let mut chance = Chance::of_case(seed, number);
+    let file = kind.2(&mut chance, turn);
+    let places = places(&mut chance, turn, &file);
+    (file, places)
 }
 
 /// "Input R, output R, matrix 2 1 1 2, word 0 0 1 (147 bytes)."

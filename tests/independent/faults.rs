@@ -32,10 +32,17 @@ pub enum Fault {
     HeldIsLost,
     RangeOneLess,
     RangeFirst,
+    ListsLoading,
+    ListsAboveOne,
+    ListBeforeRoom,
+    RangeBeforeList,
+    ListForGivingOnly,
+    FullListGoesOn,
+    DivisorOfTwo,
 }
 
 /// Each fault with its name on the command line and what goes wrong.
-pub const FAULTS: [(Fault, &str, &str); 28] = [
+pub const FAULTS: [(Fault, &str, &str); 35] = [
     (Fault::BothEnds, "both-ends", "inclusion is judged by both ends alone"),
     (Fault::EqualShutOut, "equal-shut-out", "an interval is not included in itself"),
     (Fault::ProductIn64Bits, "product-in-64-bits", "two determinants are multiplied in 64 bits to get a sign"),
@@ -64,6 +71,13 @@ pub const FAULTS: [(Fault, &str, &str); 28] = [
     (Fault::HeldIsLost, "held-is-lost", "the held digit is lost when absorbing it leaves the range"),
     (Fault::RangeOneLess, "range-one-less", "an entry of 1,000,000,000 is out of range"),
     (Fault::RangeFirst, "range-first", "the range is tested before cancelling"),
+    (Fault::ListsLoading, "lists-loading", "a divisor, 1, is listed for loading too"),
+    (Fault::ListsAboveOne, "lists-above-one", "only divisors above 1 are listed"),
+    (Fault::ListBeforeRoom, "list-before-room", "15 is given where there is no room either"),
+    (Fault::RangeBeforeList, "range-before-list", "22 is given where the list is full too"),
+    (Fault::ListForGivingOnly, "list-for-giving-only", "a full list stops no absorbing"),
+    (Fault::FullListGoesOn, "full-list-goes-on", "a full list stops no step, and the divisor is dropped"),
+    (Fault::DivisorOfTwo, "divisor-of-two", "the divisor of the first two entries is listed"),
 ];
 
 /// One more than the place in the table of the fault that is planted; 0 for none.

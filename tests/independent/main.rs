@@ -1,14 +1,16 @@
-//! An implementation of document 01 and of document 02's requests T-04 and T-05, written from their sentences alone, to be held against the proved
-//! programs; and a generator of job files. What it can be asked for is in USAGE below.
+//! An implementation of document 01 and of document 02's requests T-02, T-04 and T-05, written from their sentences alone, to be held against the
+//! proved programs; and a generator of job files. What it can be asked for is in USAGE below.
 
 mod chance;
 mod damage;
 mod draw_full;
 mod draw_jobs;
+mod draw_list;
 mod draw_stretching;
 mod draw_systems;
 mod expanding;
 mod faults;
+mod list_test;
 mod plane;
 mod reading;
 mod running;
@@ -23,15 +25,18 @@ use std::io::{stdin, stdout, BufWriter, Read, Write};
 
 const USAGE: &str = "usage: independent COMMAND [--fault NAME]
   one              read one job file, print what the program prints for it
-  many             read many job files, each after its length in 4 bytes, low byte first; print the same for each
-  draw SEED COUNT  write that many cases in the form that `many` reads
+  many             read many job files, each after its length in 4 bytes and before the number of places in its list in 2 bytes, low byte first;
+                   print the same for each, and for one that reads a fourth line: with that list, end, taken, written, listed, the numbers listed
+  list PLACES      read one job file, print that line for a list of so many places
+  draw SEED COUNT [FIRST]  write that many cases in the form that `many` reads, from case FIRST on, or from 1
   case SEED N      write the job file of case N, the first being 1
+  places SEED N    print how many places its list has
   kind N           print what kind of case N is
   kinds            print all kinds with their shares
   show             read one job file, print it in readable form
   trace            read one job file, print the steps of its run as a table
   faults           print the names of the faults that --fault plants
-  self-test        hold this implementation against document 01's examples";
+  self-test        hold this implementation against the documents' examples";
 
 fn main() {
     let mut words: Vec<String> = std::env::args().skip(1).collect();
@@ -46,8 +51,11 @@ fn main() {
     match words[..] {
         ["one"] => print(running::printed(&input()).as_bytes()),
         ["many"] => answer_many(&input()),
-        ["draw", seed, count] => draw(number(seed), number(count)),
-        ["case", seed, n] => print(&draw_jobs::case(number(seed), number(n).max(1))),
+        ["list", places] => print(running::printed_list(&input(), number(places) as usize).as_bytes()),
+        ["draw", seed, count] => draw(number(seed), number(count), 1),
+        ["draw", seed, count, first] => draw(number(seed), number(count), number(first).max(1)),
+        ["case", seed, n] => print(&draw_jobs::case(number(seed), number(n).max(1)).0),
+        ["places", seed, n] => println!("{}", draw_jobs::case(number(seed), number(n).max(1)).1),
         ["kind", n] => println!("{}", draw_jobs::kind_of(number(n).max(1)).0 .1),
         ["kinds"] => draw_jobs::KINDS.iter().for_each(|kind| println!("{} of {}: {}", kind.0, draw_jobs::SLOTS, kind.1)),
         ["show"] => print(show::readable(&input()).as_bytes()),
@@ -84,20 +92,28 @@ fn write(out: &mut impl Write, bytes: &[u8]) {
 fn answer_many(mut jobs: &[u8]) {
     let mut out = BufWriter::new(stdout());
     while !jobs.is_empty() {
-        let length = jobs.get(..4).map_or(usize::MAX, |bytes| u32::from_le_bytes(bytes.try_into().unwrap()) as usize);
-        let Some(job) = jobs[4.min(jobs.len())..].get(..length) else { give_up("the input ends within a job") };
+        let length = take(&mut jobs, 4).iter().rev().fold(0, |n, &byte| 256 * n + byte as usize);
+        let job = take(&mut jobs, length);
+        let places = take(&mut jobs, 2);
         write(&mut out, running::printed(job).as_bytes());
-        jobs = &jobs[4 + length..];
+        write(&mut out, running::printed_list(job, places[0] as usize + 256 * places[1] as usize).as_bytes());
     }
     out.flush().unwrap_or_else(|_| give_up("standard output cannot be written"));
 }
 
-fn draw(seed: u64, count: u64) {
+fn take<'a>(rest: &mut &'a [u8], length: usize) -> &'a [u8] {
+    let Some((taken, left)) = rest.split_at_checked(length) else { give_up("the input ends within a job") };
+    *rest = left;
+    taken
+}
+
+fn draw(seed: u64, count: u64, first: u64) {
     let mut out = BufWriter::new(stdout());
-    for n in 1..=count {
-        let job = draw_jobs::case(seed, n);
+    for n in first..first + count {
+        let (job, places) = draw_jobs::case(seed, n);
         write(&mut out, &(job.len() as u32).to_le_bytes());
         write(&mut out, &job);
+        write(&mut out, &(places as u16).to_le_bytes());
     }
     out.flush().unwrap_or_else(|_| give_up("standard output cannot be written"));
 }

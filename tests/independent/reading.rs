@@ -5,7 +5,7 @@ use crate::faults::{planted, Fault};
 use crate::plane::{covered, det, determinant, gcd, Interval, Matrix};
 use crate::systems::{f, w, Row};
 
-#[derive(Debug)]
+#[derive(Clone, Debug)]
 pub struct Job {
     pub input: Vec<Row>,
     pub output: Vec<Row>,

@@ -1,10 +1,11 @@
 //! This implementation held against what document 01 says itself: its examples (P1 to P12 and the other runs), and its own test of inclusion; and
-//! against what document 02 says of systems that expand (T-04) and of system B (T-05).
+//! against what document 02 says of systems that expand (T-04) and of system B (T-05). What it says of divisors (T-02) is in list_test.rs.
 
 use crate::draw_full::room_and_range;
 use crate::draw_jobs::{documents_job, layout};
 use crate::draw_stretching::hundred_of;
 use crate::expanding::{expands, growth, rate};
+use crate::list_test::lists;
 use crate::plane::{cancel, covered, det, determinant, in_closed, inside, included, send, Interval, Matrix, Point};
 use crate::reading::{judge_system, read, Job};
 use crate::running::{printed, run};
@@ -19,6 +20,7 @@ pub fn all() {
     refusals(&mut tests);
     long_runs(&mut tests);
     full_rooms(&mut tests);
+    lists(&mut tests);
     expanding_systems(&mut tests);
     order_of_18(&mut tests);
     symmetry_of_b(&mut tests);
@@ -31,7 +33,7 @@ pub fn all() {
     std::process::exit(!failed.is_empty() as i32);
 }
 
-type Tests = Vec<(&'static str, bool)>;
+pub type Tests = Vec<(&'static str, bool)>;
 
 fn interval(left: Point, right: Point) -> Interval {
     Interval { left, right }
@@ -47,7 +49,7 @@ fn inclusions(tests: &mut Tests) {
     tests.push(("(1/0, 1/-1) runs from infinity to -1", inside(interval([1, 0], [1, -1]), [-2, 1]) && !inside(interval([1, 0], [1, -1]), [0, 1])));
 }
 
-fn job(input: &[Row], output: &[Row], matrix: [i128; 4], word: &[u8]) -> Job {
+pub fn job(input: &[Row], output: &[Row], matrix: [i128; 4], word: &[u8]) -> Job {
     Job { input: input.to_vec(), output: output.to_vec(), matrix, word: word.to_vec() }
 }
 

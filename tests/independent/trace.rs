@@ -1,13 +1,13 @@
 //! The steps of a job's run as a table: the state before each step, the image X·W_held, and what the step does.
 
-use crate::plane::{cancel, image, Interval};
+use crate::plane::{image, Interval};
 use crate::reading::read;
-use crate::running::{step, Run, ROOM};
+use crate::running::{never_full, opened, step, ROOM};
 use crate::systems::w;
 
 pub fn table(file: &[u8]) -> String {
     let Ok(job) = read(file) else { return "the file is refused\n".to_string() };
-    let mut run = Run { x: cancel(job.matrix), held: None, taken: 0, written: Vec::new() };
+    let mut run = opened(&job);
     let mut lines = "| step | X | held | X·W_held | what the step does |\n|---|---|---|---|---|\n".to_string();
     for number in 1.. {
         let [a, b, c, d] = run.x;
@@ -19,7 +19,7 @@ pub fn table(file: &[u8]) -> String {
             }
         };
         let before = (run.held, run.taken, run.written.len());
-        let done = step(&job, ROOM, &mut run);
+        let done = step(&job, never_full(&job, ROOM), &mut run);
         let does = match (done, before) {
             (Err(end), _) => format!("stops: end {end}"),
             (Ok(()), (_, taken, _)) if run.taken > taken => format!("takes {} in", job.word[taken]),
