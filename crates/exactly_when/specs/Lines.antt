@@ -1,6 +1,6 @@
 -- "One step, first line that applies": document 01's five lines as sentences, with when each applies and what it does, and document 02's "15, the list is
--- full, in steps 4 and 5, after 20 and before 22". Inclusion is the sentence,
--- "every point inside I is inside J", and not the test of it. The theorem `step-exactly` (proofs/) proves that the step does this and nothing else.
+-- full, in steps 4 and 5, after 20 and before 22". Inclusion is the sentence, "every point inside I is inside J", and not the test of it. The theorem
+-- `step-exactly` (proofs/) proves that the step does this and nothing else.
 use mathlib.Core.Path.{_≡_}
 use mathlib.Core.List.{List, [], _∷_}
 use mathlib.Core.Option.{Option, none, some}

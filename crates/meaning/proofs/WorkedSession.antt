@@ -2,7 +2,7 @@
 -- room for two digits stops with 0 1, the state 3 0 1 1 and the last digit still held; a second call, with no input and more room, ends where the one call ended.
 -- The sessions are computed by the checker from the definitions of opening and `run`. Then what `session-product` and `session-numbers` say of them, in plain numbers:
 -- in `whole-word` at the rest 1/1, and in `half-way` at the rest 2/1, which the held digit 1 makes of 1/1. Both times the input names 2/5, of which the matrix makes
--- 9/12, and the output names 9/12 in front of what is still to come. Last, the held digit is not absorbed: with it counted in, the product is another.
+-- 9/12, and the output names 9/12 in front of what is still to come. Of P6, where a 2 is cancelled, what `session-scale` says. Last, the held digit is not absorbed: with it counted in, the product is another.
 use Rattle.whole.proofs.Laws.{_≡_, refl, ap, List, [], _∷_, ℕ, _*_, arith, replicate, ℤ, pos, natAbs, at, gcdBy, gcd, gcd4, first, unlessRefused, up<, within?}
 use Rattle.plane.proofs.Laws.{Point, SamePoint, determinantOf, pseudoinverseOf, apply, multiplyOf, Closed, imageOf, cancelOf, scaleOf, above-not-0}
 use Rattle.inclusion.proofs.Laws.{closed?, same?, included?}
@@ -61,10 +61,11 @@ cancelled-word = called-again (newly-opened b-admitted b-admitted refl) (1 ∷ [
 
 -- ---- the product, in plain numbers
 
--- 1·2 times (G_1·X) equals det G_1 times (M·F_1): both are 2 2 0 4
-pub cancelled-scale : scaleOf (pos 2) (four 1 1 0 2) ≡ scaleOf (pos 2) (four 1 1 0 2)
-unfolding multiplyOf productOf determinantsOf timesAll determinantOf cancelOf gcd4 gcd gcdBy transformationBy intervalBy stored rowsIn rowsB
-cancelled-scale = of-the (session-scale cancelled-word) (1 ∷ []) refl
+-- the product of the divisors, 1·2, times (G_1·X) is 2 2 0 4, since it is det G_1 times (M·F_1)
+pub cancelled-scale : (scaleOf (pos (timesAll (1 ∷ 2 ∷ []))) (multiplyOf (productOf B (1 ∷ [])) (four 1 0 0 1)) ≡ four 2 2 0 4) ×
+    (scaleOf (determinantsOf B (1 ∷ [])) (multiplyOf (cancelOf (four 1 0 0 1)) (productOf B (1 ∷ []))) ≡ four 2 2 0 4)
+unfolding scaleOf multiplyOf productOf determinantsOf timesAll determinantOf cancelOf gcd4 gcd gcdBy transformationBy intervalBy stored rowsIn rowsB
+cancelled-scale = (of-the (session-scale cancelled-word) (1 ∷ []) refl, refl)
 
 pub whole-product : UpToScale (four 4 5 5 7) (four 4 5 5 7)
 unfolding multiplyOf productOf transformationBy intervalBy stored
