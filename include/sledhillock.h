@@ -61,7 +61,7 @@
 
      A DIVISOR is what was cancelled. To give a digit out, a run multiplies the state's matrix from the left by d -b -c a of that digit; to absorb the held digit, from the
      right by a b c d of that one. Then it divides the product by the greatest common divisor of its four entries. That number is listed, and 1 is listed too: one number for
-     each digit given out and one for each digit absorbed, in the order in which this was done. Each is in 1..200000000000. What they are for: open a session and run it by as
+     each digit given out and one for each digit absorbed, in the order in which this was done. Each is in 1..20000. What they are for: open a session and run it by as
      many calls as you like, always with the same two systems. At every moment, with
 
          L   the product of all divisors listed so far, of all calls

@@ -1,6 +1,8 @@
 // Cancelling, on machine words: "To cancel a matrix, divide it by the greatest common divisor of the four entries. Signs stay." What it says: crates/plane.
+ghost use mathlib.Core.Bool.{true};
+ghost use mathlib.Core.Logic.{_↔_};
 ghost use mathlib.Core.Path.{_≡_};
-ghost use Prim.Native.Nat.{_<_};
+ghost use Prim.Native.Nat.{_<_, _∣_};
 ghost use lib.IntN.{natAbs};
 ghost use Rattle.whole.specs.Range.{Within};
 ghost use Rattle.whole.specs.Divisor.{gcd, gcd4, divided, Divides4};
@@ -62,5 +64,69 @@ pub fn cancel(m: [i64; 4]) -> Cancelled
     Cancelled {
         divisor: g,
         matrix: quotients(m, g),
+    }
+}
+
+// Whether four numbers are all even. All four are looked at, so that there is nothing to branch on but the answer.
+fn even(m: [i64; 4]) -> bool
+    ensures { λ r. ⌜ (r ≡ true) ↔ Divides4 2 m ⌝ }
+{
+    (m[0] % 2 == 0) & (m[1] % 2 == 0) & (m[2] % 2 == 0) & (m[3] % 2 == 0)
+}
+
+// A matrix whose divisor divides 2, cancelled: the divisor is 2 where all four entries are even, and else 1. A shift rounds down, but an even number has
+// nothing to round, so that "Signs stay".
+fn halved(m: [i64; 4]) -> Cancelled
+    requires { ⌜ gcd4 m ∣ 2 ⌝ }
+    ensures { λ r. ⌜ (r .divisor ≡ gcd4 m) × (r .matrix ≡ cancelOf m) ⌝ }
+{
+    if even(m) {
+        return Cancelled {
+            divisor: 2,
+            matrix: [m[0] >> 1, m[1] >> 1, m[2] >> 1, m[3] >> 1],
+        };
+    }
+    Cancelled {
+        divisor: 1,
+        matrix: m,
+    }
+}
+
+// The greatest common divisor of the four entries, where it divides d: behind the first remainder of each entry no number in Euclid is above d.
+fn shared(m: [i64; 4], d: u64) -> u64
+    requires { ⌜ gcd4 m ∣ d ⌝ }
+    ensures { λ r. ⌜ r ≡ gcd4 m ⌝ }
+{
+    whole::gcd(
+        whole::magnitude(m[3]),
+        whole::gcd(
+            whole::magnitude(m[2]),
+            whole::gcd(
+                whole::magnitude(m[1]),
+                whole::gcd(whole::magnitude(m[0]), d),
+            ),
+        ),
+    )
+}
+
+// "To cancel a matrix, divide it by the greatest common divisor of the four entries. Signs stay." As `cancel` does, from a number that the divisor divides:
+// over a step that is the determinant of its digit (`divisor-divides`, crates/plane), 1 for every digit of R and 2 for every digit of B and D.
+pub fn cancel_by(m: [i64; 4], d: u64) -> Cancelled
+    requires { ⌜ (Within 200000000000 m) × (0 < d) × (gcd4 m ∣ d) ⌝ }
+    ensures { λ r. ⌜ (r .divisor ≡ gcd4 m) × (r .matrix ≡ cancelOf m) ⌝ }
+{
+    if d == 1 {
+        return Cancelled {
+            divisor: 1,
+            matrix: m,
+        };
+    }
+    if d == 2 {
+        return halved(m);
+    }
+    let common = shared(m, d);
+    Cancelled {
+        divisor: common,
+        matrix: quotients(m, common),
     }
 }

@@ -9,7 +9,7 @@ ghost use Rattle.digits.specs.Orders.{lent, Columns, intervalAt};
 ghost use Rattle.cover.specs.Cover.{goesOnBehind?, someGoesOn?, covered?};
 
 // Whether the interval w goes on behind the right end of v: it holds that end, and does not end there too.
-// With z for that end and x, y for the ends of w: z is held where det(z, x)·det(z, y) is 0 or below, and w ends there where det(z, y) is 0.
+// With z for that end and x, y for the ends of w: z is held where det(z, x)·det(z, y) is 0 or below, and w ends there where det(z, y) is 0. The two signs tell that of the product.
 fn goes_on_behind(v: [i64; 4], w: [i64; 4]) -> bool
     requires { ⌜ (Within 100 v) × (Within 100 w) ⌝ }
     ensures { λ r. ⌜ r ≡ goesOnBehind? v w ⌝ }
@@ -19,7 +19,10 @@ fn goes_on_behind(v: [i64; 4], w: [i64; 4]) -> bool
     if further == 0 {
         return false;
     }
-    inclusion::opposite(further, d[0])
+    if further < 0 {
+        return 0 <= d[0];
+    }
+    d[0] <= 0
 }
 
 // Whether the interval of some digit below n, from a digit on, goes on behind the right end of v.

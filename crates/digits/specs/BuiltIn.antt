@@ -6,7 +6,8 @@ use lib.IntN.{ℤ, pos, negsuc}
 use Rattle.whole.specs.Range.{at}
 use Rattle.symmetry.specs.Symmetry.{turned, reflected}
 use Rattle.digits.specs.Types.{StoredSystem}
-use Rattle.digits.specs.Orders.{tabulated, columnsOf}
+use Rattle.digits.specs.System.{System}
+use Rattle.digits.specs.Orders.{tabulated, columnsOf, asWritten}
 
 -- −n, so that the tables read as they are printed
 abbrev pub minus : ℕ → ℤ
@@ -51,6 +52,10 @@ rowsB =
 abbrev pub joined : List (List ℤ) → List ℤ
 joined [] = []
 joined (r ∷ rs) = r ++ joined rs
+
+-- the system that a table is: as many digits as it has rows
+abbrev pub tableOf : List (List ℤ) → System
+tableOf rs = asWritten (length rs) (joined rs)
 
 -- a table in memory: as many digits as it has rows, in columns
 unfoldable pub stored : List (List ℤ) → StoredSystem

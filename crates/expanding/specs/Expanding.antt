@@ -8,12 +8,10 @@ use lib.Signed.{leZ, ltZ, _≤ℤ_, _<ℤ_}
 use Rattle.whole.specs.Range.{at, Within}
 use Rattle.whole.specs.First.{everyBelow?}
 use Rattle.plane.specs.Plane.{Pair, Point, left, right, apply, determinantOf, pseudoinverseOf, Inside}
+use Rattle.plane.specs.Dot.{dot}
 use Rattle.digits.specs.System.{System, transformation, interval}
 
--- x·y = x0·y0 + x1·y1; of z and z it is the squared length of z, z0² + z1²
-abbrev pub dot : Pair → Pair → ℤ
-dot x y = x .z0 *ℤ y .z0 +ℤ x .z1 *ℤ y .z1
-
+-- z0² + z1²
 abbrev pub squaredLength : Pair → ℤ
 squaredLength z = dot z z
 

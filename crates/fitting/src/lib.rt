@@ -2,9 +2,9 @@
 ghost use mathlib.Core.Path.{_≡_};
 ghost use Prim.Native.Nat.{_≤_};
 ghost use Rattle.whole.specs.Range.{Within};
-ghost use Rattle.digits.specs.System.{Small};
+ghost use Rattle.plane.specs.Plane.{Interval};
 ghost use Rattle.digits.specs.Orders.{lent, Columns};
-ghost use Rattle.fitting.specs.FirstFit.{fittingOf, fitting};
+ghost use Rattle.fitting.specs.FirstFit.{Searchable, fittingOf, fitting};
 
 // The digit that fits, if one does.
 pub enum Fitting {
@@ -14,7 +14,7 @@ pub enum Fitting {
 
 // Line 4, its first half: the smallest output digit whose interval includes the image.
 pub fn fitting_digit(count: usize, columns: &[i16], image: [i64; 4]) -> Fitting
-    requires { ⌜ (Columns (now columns)) × (count ≤ 16) × (Small (lent count (now columns))) × (Within 200000000000 image) ⌝ }
+    requires { ⌜ (Columns (now columns)) × (count ≤ 16) × (Searchable (lent count (now columns))) × (Within 200000000000 image) × (Interval image) ⌝ }
     ensures { λ r. ⌜ r ≡ fitting (fittingOf (lent count (now (columns .entry))) image) ⌝ }
 {
     let mut b = 0;

@@ -6,31 +6,27 @@
 -- The argument. The test is read in the four numbers of InclusionSigns.antt (`Seen`). There its answer decides (`answer`) between "every mixture α·x + β·y of
 -- I's ends with α·β > 0 is inside J" and "one such mixture is outside". And these mixtures are the points inside I: each point z is one, up to a factor, by
 -- Cramer's rule det(x, y)·z = det(z, y)·x + det(x, z)·y (`mixture`); and each of them is inside I (`mix-inside`).
-use Rattle.whole.proofs.Laws.{_≡_, sym, _∙_, ap, ap₂, subst, Bool, true, false, _&&_, List, T, ℤ, pos, negℤ, _+ℤ_, _*ℤ_, _≤ℤ_, _<ℤ_, clashℤ, _⊕_, _⊖_, _⊗_, #, _≗_, law, _≺_, h, _⊞_, _⊠_, _⇒_, _by_, claim, ≤-of-<, both-true, true-by}
+use Rattle.whole.proofs.Laws.{_≡_, sym, _∙_, ap, ap₂, subst, Bool, true, false, _&&_, List, T, ℤ, pos, negℤ, _+ℤ_, _-ℤ_, _*ℤ_, _≤ℤ_, _<ℤ_, clashℤ, _⊕_, _⊖_, _⊗_, #, _≗_, law, _≺_, h, _⊞_, _⊠_, _⇒_, _by_, claim, ≤-of-<, both-true, true-by}
 use Rattle.plane.proofs.Laws.{Det, det-turned, three-terms, mix, mix-inside, inside-point, Pair, Point, det, left, right, Interval, Inside, Closed}
 use Rattle.inclusion.specs.Inclusion.{Included, closed?, same?, included?}
 use Rattle.inclusion.proofs.InclusionSigns.{EndsIn, Kept, keep-equal, keep-u, keep-v, Mixture, kept-closed, kept-inside, Off, off-left, off-right, off-round}
 use Rattle.inclusion.proofs.InclusionTests.{closed-says, not-closed-says, same-zero, zero-same, Judged, left-out, right-out, equal, u-out, v-out, round, judge}
 
 -- the four numbers: det(x, v), det(u, x), det(y, v), det(u, y)
-abbrev Seen : (ℤ → ℤ → ℤ → ℤ → Type 0) → List ℤ → List ℤ → Type 0
+abbrev pub Seen : (ℤ → ℤ → ℤ → ℤ → Type 0) → List ℤ → List ℤ → Type 0
 Seen P i j = P (det (left i) (right j)) (det (left j) (left i)) (det (right i) (right j)) (det (left j) (right i))
 
 -- ---- what the test's answer says of the four numbers
 
 -- det(x, v)·det(u, y) − det(y, v)·det(u, x) is det(x, y)·det(u, v), a product of two numbers below 0
-ends-in : {i j : List ℤ} → Interval i → Interval j → Closed j (left i) → Closed j (right i) → Seen EndsIn i j
-ends-in {i} {j} p q l r = record {
-  turn =
-      claim 8 (λ x0 x1 y0 y1 u0 u1 v0 v1.
-      Det x0 x1 y0 y1 ≺ # 0 ⇒ Det u0 u1 v0 v1 ≺ # 0 ⇒ # 0 ≺ Det x0 x1 v0 v1 ⊗ Det u0 u1 y0 y1 ⊖ Det y0 y1 v0 v1 ⊗ Det u0 u1 x0 x1
-      by h 0 ⊞ h 1 ⊠ h 2) tt
-      (left i .z0) (left i .z1) (right i .z0) (right i .z1) (left j .z0) (left j .z1) (right j .z0) (right j .z1) (p .below) (q .below);
-  left-in = l .not-below;
-  right-in = r .not-below;
-}
+pub turn : {i j : List ℤ} → Interval i → Interval j → Seen (λ a b c d. pos 0 <ℤ (a *ℤ d -ℤ c *ℤ b)) i j
+turn {i} {j} p q =
+    claim 8 (λ x0 x1 y0 y1 u0 u1 v0 v1.
+    Det x0 x1 y0 y1 ≺ # 0 ⇒ Det u0 u1 v0 v1 ≺ # 0 ⇒ # 0 ≺ Det x0 x1 v0 v1 ⊗ Det u0 u1 y0 y1 ⊖ Det y0 y1 v0 v1 ⊗ Det u0 u1 x0 x1
+    by h 0 ⊞ h 1 ⊠ h 2) tt
+    (left i .z0) (left i .z1) (right i .z0) (right i .z1) (left j .z0) (left j .z1) (right j .z0) (right j .z1) (p .below) (q .below)
 
-data Answer (i j : List ℤ) : Bool → Type 0 where
+pub data Answer (i j : List ℤ) : Bool → Type 0 where
   holds : Seen Kept i j → Answer i j true
   fails : Seen Off i j → Answer i j false
 
@@ -40,7 +36,7 @@ module _ {i j : List ℤ} (p : Interval i) (q : Interval j) where
   Tests = Judged (closed? j (left i)) (closed? j (right i)) (same? (left i) (left j) && same? (right i) (right j)) (closed? i (left j)) (closed? i (right j))
 
   ends : closed? j (left i) ≡ true → closed? j (right i) ≡ true → Seen EndsIn i j
-  ends l r = ends-in p q (closed-says l) (closed-says r)
+  ends l r = record { turn = turn p q; left-in = closed-says l .not-below; right-in = closed-says r .not-below }
 
   answered : {b : Bool} → Tests b → Answer i j b
   answered (left-out l) = fails (off-left (not-closed-says j (left i) l))
@@ -57,11 +53,11 @@ module _ {i j : List ℤ} (p : Interval i) (q : Interval j) where
     not-equal = λ b c. subst T (sym (ap₂ _&&_ (zero-same (left i) (left j) (det-turned (left i) (left j) ∙ ap negℤ b)) (zero-same (right i) (right j) c)) ∙ e) tt;
   })
 
-  answer : Answer i j (included? i j)
+  pub answer : Answer i j (included? i j)
   unfolding included?
   answer = answered (judge (closed? j (left i)) (closed? j (right i)) (same? (left i) (left j) && same? (right i) (right j)) (closed? i (left j)) (closed? i (right j)))
 
-kept : {i j : List ℤ} {b : Bool} → Answer i j b → b ≡ true → Seen Kept i j
+pub kept : {i j : List ℤ} {b : Bool} → Answer i j b → b ≡ true → Seen Kept i j
 kept (holds k) e = k
 kept (fails o) e = absurd (subst T (sym e) tt)
 

@@ -21,7 +21,7 @@ fn state_kept(n: usize, s: State) -> bool
     ensures { λ r. ⌜ r ≡ state? n s ⌝ }
 {
     let x = s.matrix;
-    if !ranges::within(x, 1000000000) {
+    if !ranges::within_state(x) {
         return false;
     }
     if plane::determinant(x) <= 0 {

@@ -1,1 +1,2 @@
--- The folders prove the functions of src/lib.rt, each by its name. What holds of a step is in crates/steps.
+-- One step: which line applies. Fit: what was found to fit, for the functions' proofs.
+mod Fit

@@ -3,7 +3,7 @@
 -- points to the same points and intervals to the same intervals; its determinant and each of its entries keep their sign.
 -- The argument: a matrix of determinant above 0 has an entry that is not 0, so the divisor is above 0 and goes out of every entry (`Divisor` of the crate `whole`). What
 -- follows is said of any n and m with k·n = m entry by entry, k above 0 (`Times4 k n m`), of which a matrix and its cancelled form are one case.
-use Rattle.whole.proofs.Laws.{_≡_, refl, sym, _∙_, ap, subst, List, ℕ, zero, suc, _*_, _<_, arith, length, ℤ, pos, _*ℤ_, _<ℤ_, at, gcd4, _⊖_, _⊗_, #, _≺_, _≈_, never, h, _⊡_, linear, _&_, _⇒_, _from_, claim, cancel-pos, up<, Times, Times4, gcd4-divides, gcd4-zero, divided-times, reduced, reduced-only}
+use Rattle.whole.proofs.Laws.{_≡_, refl, sym, _∙_, ap, subst, List, ℕ, zero, suc, _*_, _<_, arith, length, ℤ, pos, _*ℤ_, _<ℤ_, at, gcd4, divided, natAbs, quotZ, one-dvd, quot-exact, _⊖_, _⊗_, #, _≗_, law, _≺_, _≈_, never, h, _⊡_, linear, _&_, _⇒_, _from_, claim, cancel-pos, up<, Times, Times4, gcd4-divides, gcd4-zero, divided-times, reduced, reduced-only}
 use native.Mathlib.Nat as N
 use Rattle.plane.specs.Plane.{Pair, SamePoint, apply, determinantOf, imageOf, cancelOf}
 use Rattle.plane.specs.Scale.{entries, scaleOf, DetAbove, SameSign, SameSigns, SameEnds}
@@ -100,6 +100,14 @@ cancel-only {m = m} p t e = times-only p t (subst (λ (j : ℕ). Times4 j (cance
 
 pub cancel-only-four : {k : ℕ} {n m : List ℤ} → length n ≡ 4 → 0 < k → Times4 k n m → gcd4 n ≡ 1 → n ≡ cancelOf m
 cancel-only-four {n = n} f p t e = four n f ∙ cancel-only p t e
+
+-- what is in lowest terms stays as it is
+by-one : (z : ℤ) → z ≡ quotZ z (pos 1)
+by-one z = sym (quot-exact z 1 (one-dvd (natAbs z))) ∙ law 1 (λ x. # 1 ⊗ x ≗ x) tt (quotZ z (pos 1))
+
+pub cancel-kept : (m : List ℤ) → length m ≡ 4 → gcd4 m ≡ 1 → m ≡ cancelOf m
+unfolding cancelOf
+cancel-kept m f e = four m f ∙ four-equal (by-one (at m 0)) (by-one (at m 1)) (by-one (at m 2)) (by-one (at m 3)) ∙ ap (divided m) (sym e)
 
 -- ---- all of it
 

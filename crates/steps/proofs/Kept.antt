@@ -69,7 +69,7 @@ module _ (y : Setting) (inputs : Digits (y .input)) (outputs : Digits (y .output
       let x : DetAbove (s .matrix) = record { above = k .state .above } in
       let g : DetAbove (transformation (y .output) b) = record { above = outputs b digit .above } in
       each-cancelled (given s) m (KeepsBehind a) (gave b) (λ w. adds a (gaveBy b (gcd4 m)) k (digit, tt)
-      (divisor-number (left-factors (k .state .in-range) x (outputs b digit .in-range .numbers-f) g), tt)
+      (divisor-number (outputs b digit .in-range .numbers-f) (left-factors (k .state .in-range) (k .state .cancelled) (outputs b digit .in-range .numbers-f) (g .above)), tt)
       (cancelled-rules (y .input .count) t m refl (det-above-multiply (det-above-pseudoinverse g) x) (within-says 1000000000 (t .matrix) w) (k .state .held-digit)))
   held-keeps a s h none below e k =
       let m = absorbedMatrix (y .input) s h in
@@ -77,7 +77,7 @@ module _ (y : Setting) (inputs : Digits (y .input)) (outputs : Digits (y .output
       let x : DetAbove (s .matrix) = record { above = k .state .above } in
       let f : DetAbove (transformation (y .input) h) = record { above = inputs h below .above } in
       each-cancelled (absorbed s) m (KeepsBehind a) nothing (λ w. adds a (listed (gcd4 m)) k tt
-      (divisor-number (right-factors (k .state .in-range) x (inputs h below .in-range .numbers-f) f), tt)
+      (divisor-number (inputs h below .in-range .numbers-f) (right-factors (k .state .in-range) (k .state .cancelled) (inputs h below .in-range .numbers-f) (f .above)), tt)
       (cancelled-rules (y .input .count) t m refl (det-above-multiply x f) (within-says 1000000000 (t .matrix) w) tt))
 
   plan-keeps : (a : Deed) (s : State) (h : Held) → HeldDigit (y .input .count) h → Kept y a s → Each (KeepsBehind a) nothing (planBy y s h)

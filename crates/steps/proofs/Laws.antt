@@ -12,6 +12,6 @@ pub use Rattle.steps.proofs.Cancelled.{each-cancelled, stop-cancelled}
 pub use Rattle.steps.proofs.Listing.{Lists, step-lists, any-list}
 pub use Rattle.steps.proofs.FullList.{Why, step-why}
 -- the definitions
-pub use Rattle.steps.specs.Made.{Follows, Ready, StaysBy, Usable, WorksWith, outcomeBy}
+pub use Rattle.steps.specs.Made.{Follows, HeldRecognised, OfR, Ready, Recognised, StaysBy, Usable, WorksWhere, WorksWith, outcomeBy}
 pub use Rattle.steps.specs.Step.{DivisorNumber, Setting, absorbedMatrix, cancelledPlan, chosen, emitPlan, givenMatrix, heldPlan, oneWord, plain, plan, planBy, setting}
 pub use Rattle.steps.specs.Types.{Absorb, Give, Halt, Kind, Load, Move}

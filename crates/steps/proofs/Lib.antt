@@ -5,7 +5,7 @@
 --   Cancelled lines 4 and 5 where they cancel: what holds where the plan goes on, and where it stops
 --   Listing   how many numbers a step lists; one that takes a byte in does not look at the list
 --   FullList  where a step ends 15, and that it stops otherwise before a longer list too
---   Plans, Factors   for the functions of src/: a plan's tests come out, and its products can be formed
+--   Plans, Factors, ByDeterminant   for the functions of src/: a plan's tests come out, its products can be formed, and they are cancelled by a determinant
 mod Lawful
 mod Kept
 mod SamePlan
@@ -14,4 +14,5 @@ mod Listing
 mod FullList
 mod Plans
 mod Factors
+mod ByDeterminant
 pub mod Laws

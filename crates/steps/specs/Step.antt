@@ -83,6 +83,6 @@ plain y = planned (λ s r. plan y s) (λ s. heldCount (s .held)) InputUsed
 abbrev pub oneWord : List ℕ → ℕ → ℕ → Supply
 oneWord bytes room list = record { x = bytes; y = []; room = room; list = list }
 
--- the divisors that a step can list: the entries of its product are not all 0, and lie within 200,000,000,000
+-- the divisors that a step can list: each divides the determinant of the step's digit, whose numbers lie within 100 (`divisor-divides`, crates/plane)
 abbrev pub DivisorNumber : ℕ → Type 0
-DivisorNumber g = (1 ≤ g) × (g ≤ 200000000000)
+DivisorNumber g = (1 ≤ g) × (g ≤ 20000)

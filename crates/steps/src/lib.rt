@@ -10,8 +10,8 @@ ghost use Rattle.whole.specs.Divisor.{gcd4};
 ghost use Rattle.plane.specs.Plane.{multiplyOf, cancelOf};
 ghost use Rattle.digits.specs.Orders.{lent};
 ghost use Rattle.states.specs.Types.{RangeLeft};
-ghost use Rattle.steps.specs.Step.{oneWord, loadPlan, givePlan, absorbPlan};
-ghost use Rattle.steps.specs.Made.{move, halt, Follows, Factors, WorksWith};
+ghost use Rattle.steps.specs.Step.{oneWord, loadPlan, givenMatrix, givePlan, absorbedMatrix, absorbPlan};
+ghost use Rattle.steps.specs.Made.{move, halt, Follows, Factors, WorksWith, OfR};
 use cancelling::Cancelled;
 use states::State;
 use states::Stop;
@@ -58,7 +58,7 @@ fn in_range(s: State, kind: Kind, t: State) -> Move
     ensures { λ r. ⌜ r ≡ cond (within? 1000000000 (t .matrix)) (move kind t) (halt RangeLeft s) ⌝ }
 {
     let x = t.matrix;
-    if ranges::within(x, 1000000000) {
+    if ranges::within_state(x) {
         return Move { kind, state: t };
     }
     Move {
@@ -67,18 +67,61 @@ fn in_range(s: State, kind: Kind, t: State) -> Move
     }
 }
 
-// A product, cancelled: "X becomes .., cancelled".
-fn product(m: [i64; 4], n: [i64; 4]) -> Cancelled
-    requires { ⌜ Factors m n ⌝ }
+// A product, cancelled: "X becomes .., cancelled". What is cancelled divides d.
+fn product(m: [i64; 4], n: [i64; 4], d: u64) -> Cancelled
+    requires { ⌜ Factors m n d ⌝ }
     ensures { λ r. ⌜ (r .divisor ≡ gcd4 (multiplyOf m n)) × (r .matrix ≡ cancelOf (multiplyOf m n)) ⌝ }
 {
-    cancelling::cancel(products::multiply(m, n))
+    cancelling::cancel_by(products::multiply(m, n), d)
+}
+
+// "pseudoinverse(G_b)·X, cancelled". The determinant of a digit of R is 1: there is nothing to cancel.
+fn given_product(r: bool, columns: &[i16], s: State, b: u8) -> Cancelled
+    requires { ⌜ (WorksWith (now columns) s b) × (OfR r (now columns) b) ⌝ }
+    ensures { λ c. ⌜ (c .divisor ≡ gcd4 (givenMatrix (lent 0 (now (columns .entry))) s b)) × (c .matrix ≡ cancelOf (givenMatrix (lent 0 (now (columns .entry))) s b)) ⌝ }
+{
+    let x = s.matrix;
+    if r {
+        return Cancelled {
+            divisor: 1,
+            matrix: built_in_digits::given_r(x, b),
+        };
+    }
+    let g = digits::transformation(columns, b as usize);
+    let d = plane::determinant(g);
+    product(plane::pseudoinverse(g), x, d as u64)
+}
+
+// "X·F_held, cancelled".
+fn absorbed_product(r: bool, columns: &[i16], s: State, h: u8) -> Cancelled
+    requires { ⌜ (WorksWith (now columns) s h) × (OfR r (now columns) h) ⌝ }
+    ensures { λ c. ⌜ (c .divisor ≡ gcd4 (absorbedMatrix (lent 0 (now (columns .entry))) s h)) × (c .matrix ≡ cancelOf (absorbedMatrix (lent 0 (now (columns .entry))) s h)) ⌝ }
+{
+    let x = s.matrix;
+    if r {
+        return Cancelled {
+            divisor: 1,
+            matrix: built_in_digits::absorbed_r(x, h),
+        };
+    }
+    let f = digits::transformation(columns, h as usize);
+    let d = plane::determinant(f);
+    product(x, f, d as u64)
 }
 
 // Line 4, its second half: the digit b is given out, if a place is free behind the o that are filled, and one in the list behind the p numbers that stand there.
-pub fn give(columns: &[i16], s: State, b: u8, o: usize, room: usize, p: usize, list: usize) -> Move
-    requires { ⌜ WorksWith (now columns) s b ⌝ }
-    ensures { λ r. ⌜ ((bytes : List ℕ) → Follows (givePlan (lent 0 (now (columns .entry))) s b) s (oneWord bytes (room - o) (list - p)) r) ⌝ }
+pub fn give(
+    r: bool,
+    columns: &[i16],
+    s: State,
+    b: u8,
+    o: usize,
+    room: usize,
+    p: usize,
+    list: usize,
+) -> Move
+    requires { ⌜ (WorksWith (now columns) s b) × (OfR r (now columns) b) ⌝ }
+    ensures { λ m. ⌜ ((bytes : List ℕ) → Follows (givePlan (lent 0 (now (columns .entry))) s b) s (oneWord bytes (room - o) (list - p)) m) ⌝ }
 {
     if room <= o {
         return Move {
@@ -92,18 +135,16 @@ pub fn give(columns: &[i16], s: State, b: u8, o: usize, room: usize, p: usize, l
             state: s,
         };
     }
-    let x = s.matrix;
-    let g = digits::transformation(columns, b as usize);
-    let new = product(plane::pseudoinverse(g), x);
+    let new = given_product(r, columns, s, b);
     let matrix = new.matrix;
     let t = states::given(s, matrix);
     in_range(s, Kind::Give(b, new.divisor), t)
 }
 
 // Line 5: the held digit h is absorbed, if a place is free in the list.
-pub fn absorb(columns: &[i16], s: State, h: u8, p: usize, list: usize) -> Move
-    requires { ⌜ WorksWith (now columns) s h ⌝ }
-    ensures { λ r. ⌜ ((bytes : List ℕ) (room : ℕ) → Follows (absorbPlan (lent 0 (now (columns .entry))) s h) s (oneWord bytes room (list - p)) r) ⌝ }
+pub fn absorb(r: bool, columns: &[i16], s: State, h: u8, p: usize, list: usize) -> Move
+    requires { ⌜ (WorksWith (now columns) s h) × (OfR r (now columns) h) ⌝ }
+    ensures { λ m. ⌜ ((bytes : List ℕ) (room : ℕ) → Follows (absorbPlan (lent 0 (now (columns .entry))) s h) s (oneWord bytes room (list - p)) m) ⌝ }
 {
     if list <= p {
         return Move {
@@ -111,9 +152,7 @@ pub fn absorb(columns: &[i16], s: State, h: u8, p: usize, list: usize) -> Move
             state: s,
         };
     }
-    let x = s.matrix;
-    let f = digits::transformation(columns, h as usize);
-    let new = product(x, f);
+    let new = absorbed_product(r, columns, s, h);
     let matrix = new.matrix;
     let t = states::absorbed(s, matrix);
     in_range(s, Kind::Absorb(new.divisor), t)

@@ -5,7 +5,7 @@ ghost use Prim.Native.Nat.{_+_, _-_, _<_, _≤_};
 ghost use Rattle.digits.specs.Orders.{lent, Columns, systemOf};
 ghost use Rattle.states.specs.State.{heldCount};
 ghost use Rattle.steps.specs.Step.{setting};
-ghost use Rattle.steps.specs.Made.{Ready};
+ghost use Rattle.steps.specs.Made.{Ready, Recognised};
 ghost use Rattle.unary.specs.Run.{answered, ran, stepsOf, runOf};
 use digits::System;
 use states::Held;
@@ -45,8 +45,10 @@ fn ended(stop: Stop, i: usize, o: usize, k: usize, state: State) -> Answer
 }
 
 // The steps of a run whose systems and state are judged. A digit is written, and a divisor listed, only after the state is known to fit. The loop keeps no third count: where a
-// digit is held, i + o - k divisors are listed (see `ended`); where none is, a step asks for no place. (k is found here and not by `held_count`, for speed: docs/DECISIONS.md.)
+// digit is held, i + o - k divisors are listed (see `ended`); where none is, a step asks for no place. Where r is true both systems are R, and where b is the output system is B. (k is found here and not by `held_count`, for speed: docs/DECISIONS.md.)
 fn run_judged(
+    r: bool,
+    b: bool,
     input_count: usize,
     input_columns: &[i16],
     output_count: usize,
@@ -56,8 +58,8 @@ fn run_judged(
     output: &mut [u8],
     divisors: &mut [u64],
 ) -> Answer
-    requires { ⌜ (Columns (now «input_columns»)) × (Columns (now «output_columns»)) × (Ready (setting (lent «input_count» (now «input_columns»)) (lent «output_count» (now «output_columns»))) s) ⌝ }
-    ensures { λ r. ⌜ ran r (now (output .exit)) (now (divisors .exit)) ≡
+    requires { ⌜ (Columns (now «input_columns»)) × (Columns (now «output_columns»)) × (Ready (setting (lent «input_count» (now «input_columns»)) (lent «output_count» (now «output_columns»))) s) × (Recognised r b (setting (lent «input_count» (now «input_columns»)) (lent «output_count» (now «output_columns»)))) ⌝ }
+    ensures { λ a. ⌜ ran a (now (output .exit)) (now (divisors .exit)) ≡
         stepsOf (setting (lent «input_count» (now («input_columns» .entry))) (lent «output_count» (now («output_columns» .entry)))) s (now (input .entry)) (now (output .entry)) (now (divisors .entry)) ⌝ }
 {
     let held = s.held;
@@ -70,6 +72,8 @@ fn run_judged(
     let mut o: usize = 0;
     loop {
         let m = one_step::step(
+            r,
+            b,
             input_count,
             input_columns,
             output_count,
@@ -92,9 +96,9 @@ fn run_judged(
             Kind::Load(_) => {
                 i += 1;
             }
-            Kind::Give(b, g) => {
+            Kind::Give(d, g) => {
                 divisors[i + o - k] = g;
-                output[o] = b;
+                output[o] = d;
                 o += 1;
             }
             Kind::Absorb(g) => {
@@ -135,7 +139,17 @@ pub fn run_lent(
             state,
         };
     }
+    let r = built_in::both_r(
+        input.len(),
+        input_count,
+        input_columns,
+        output_count,
+        output_columns,
+    );
+    let b = built_in::is_b(input.len(), output_count, output_columns);
     run_judged(
+        r,
+        b,
         input_count,
         input_columns,
         output_count,

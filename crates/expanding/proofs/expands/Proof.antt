@@ -1,8 +1,8 @@
 -- `expanding::expands` meets its contract: what `dot` ensures of the ends of W and of their images under the form, and `grows` of the three numbers.
 use Rattle.whole.proofs.Laws.{needs, _≡_, _∙_, ap, sym, subst, List, ℤ, _+ℤ_, _*ℤ_, Near, Within, near-le, within-le, near-mul, near-add, held, Fits, Stands}
-use Rattle.plane.proofs.Laws.{left, right, imageOf, image-within}
+use Rattle.plane.proofs.Laws.{left, right, dot, imageOf, image-within}
 use Rattle.products.proofs.Laws.{dot-asks, dot-held}
-use Rattle.expanding.specs.Expanding.{dot, formOf, grows?, expands?}
+use Rattle.expanding.specs.Expanding.{formOf, grows?, expands?}
 use Rattle.expanding.proofs.Sizes.{form-within}
 use Rattle.expanding.proofs.expands.Statement.{statement}
 use Rattle.expanding.proofs.expands.Tie as tie

@@ -1,5 +1,6 @@
 -- `fitting::fitting_digit` meets its contract: "Some U_b includes X·W_held: let b be the smallest", a search for the first digit that fits.
 use Rattle.whole.proofs.Laws.{needs, _≡_, sym, ap, _∙_, subst, _-_, arith, now, Within, Standing, begins, misses, hits, ends}
+use Rattle.plane.proofs.Laws.{Interval}
 use Rattle.inclusion.proofs.Laws.{included?}
 use Rattle.digits.proofs.Laws.{lent, digit-there}
 use Rattle.fitting.specs.FirstFit.{fits?, fittingOf, fitting}
@@ -18,7 +19,8 @@ interval-requires c κs = let p = c .before .before .pre in digit-there (p .0) (
 included-requires : tie.Need-included-requires Inv-loop μ-loop
 included-requires c κs =
     let p = c .before .before .before .pre in
-    (p .3, subst (Within 100) (sym (c .interval .ensures)) (p .2 .small _ (c .before .loop-test .taken)))
+    let below = c .before .loop-test .taken in
+    (p .3, subst (Within 100) (sym (c .interval .ensures)) (p .2 .small _ below), p .4, subst Interval (sym (c .interval .ensures)) (p .2 .intervals _ below))
 
 cast-t8 : tie.Need-cast-t8 Inv-loop μ-loop
 cast-t8 c = omega (arith, c .before .before .before .before .before .pre .1, c .before .before .before .loop-test .taken)

@@ -7,11 +7,11 @@ use Rattle.judging.proofs.state_kept.Tie as tie
 
 returns : tie.Need-returns
 unfolding state?
-returns c = let t = c .before .within in rw (sym (t .ensures) ∙ not-true (t .result) (c .if1 .taken))
+returns c = let t = c .before .within-state in rw (sym (t .ensures) ∙ not-true (t .result) (c .if1 .taken))
 
 -- the entries lie in the range
 near : (c : tie.Else1) → within? 1000000000 (c .before .before .before .args .s .matrix) ≡ true
-near c = let t = c .before .within in sym (t .ensures) ∙ not-false (t .result) (c .if1 .left)
+near c = let t = c .before .within-state in sym (t .ensures) ∙ not-false (t .result) (c .if1 .left)
 
 returns-2 : tie.Need-returns-2
 unfolding state?

@@ -14,11 +14,11 @@ abbrev both : ℕ → List ℤ → ℕ → List ℤ → Setting
 both n columns m columns′ = setting (lent n columns) (lent m columns′)
 
 abbrev Inv-loop : tie.InvT-loop
-Inv-loop n columns m columns′ input output₀ list₀ k st₀ i₀ o₀ output list st i o =
+Inv-loop r b n columns m columns′ input output₀ list₀ k st₀ i₀ o₀ output list st i o =
     (Ready (both n columns m columns′) st) × (k + heldCount (st₀ .held) ≡ 1) × (Stands (both n columns m columns′) st₀ (lentTo input output₀ list₀) output list st i o)
 
 abbrev μ-loop : tie.MeasureT-loop
-μ-loop n columns m columns′ input output₀ list₀ k st₀ i₀ o₀ output list st i o = stepsLeft (both n columns m columns′) (lentTo input output₀ list₀) st i o
+μ-loop r b n columns m columns′ input output₀ list₀ k st₀ i₀ o₀ output list st i o = stepsLeft (both n columns m columns′) (lentTo input output₀ list₀) st i o
 
 loop-holds : tie.Need-loop-holds Inv-loop μ-loop
 loop-holds c =
@@ -116,7 +116,7 @@ loop-again-3 c = let S = c .before .before .before .before .before in (kept S, S
 pub run-judged-spec : {M : Type 1} → statement M
 run-judged-spec = tie.close (tie.spec
     Inv-loop μ-loop (λ c. search needs) (λ c. search needs) loop-holds (λ c. omega (arith, sum c))
-    (λ c. let h = c .loop .inv in omega (arith, start c .good, h .1, h .2 .here .list-length)) (λ c κs. let p = start c .pre in (p .0, p .1, c .loop .inv .0)) (λ c. search needs)
+    (λ c. let h = c .loop .inv in omega (arith, start c .good, h .1, h .2 .here .list-length)) (λ c κs. let p = start c .pre in (p .0, p .1, c .loop .inv .0, p .3)) (λ c. search needs)
     ended-requires (λ c. c .before .before .before .before .before .before .loop .inv .2 .here .out-length)
     (λ c. c .before .before .before .before .before .before .loop .inv .2 .here .list-length) returns
     (λ c. search needs) add-i loop-less loop-again

@@ -1,0 +1,2 @@
+-- Recognised: what it is for a system to be a built-in one.
+pub mod Recognised
