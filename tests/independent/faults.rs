@@ -39,10 +39,12 @@ pub enum Fault {
     ListForGivingOnly,
     FullListGoesOn,
     DivisorOfTwo,
+    CancelsTwoAlone,
+    FourDigitsAreR,
 }
 
 /// Each fault with its name on the command line and what goes wrong.
-pub const FAULTS: [(Fault, &str, &str); 35] = [
+pub const FAULTS: [(Fault, &str, &str); 37] = [
     (Fault::BothEnds, "both-ends", "inclusion is judged by both ends alone"),
     (Fault::EqualShutOut, "equal-shut-out", "an interval is not included in itself"),
     (Fault::ProductIn64Bits, "product-in-64-bits", "two determinants are multiplied in 64 bits to get a sign"),
@@ -78,6 +80,8 @@ pub const FAULTS: [(Fault, &str, &str); 35] = [
     (Fault::ListForGivingOnly, "list-for-giving-only", "a full list stops no absorbing"),
     (Fault::FullListGoesOn, "full-list-goes-on", "a full list stops no step, and the divisor is dropped"),
     (Fault::DivisorOfTwo, "divisor-of-two", "the divisor of the first two entries is listed"),
+    (Fault::CancelsTwoAlone, "cancels-two-alone", "a step cancels 2, and no other divisor"),
+    (Fault::FourDigitsAreR, "four-digits-are-r", "the intervals of R are searched in every output system of four digits"),
 ];
 
 /// One more than the place in the table of the fault that is planted; 0 for none.

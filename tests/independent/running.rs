@@ -3,7 +3,7 @@
 use crate::faults::{planted, Fault};
 use crate::plane::{cancel, gcd, image, included, product, pseudoinverse, Interval, Matrix};
 use crate::reading::{read, Job};
-use crate::systems::{f, w};
+use crate::systems::{f, w, R};
 
 /// The program "gives room for 8,192 digits".
 pub const ROOM: usize = 8192;
@@ -86,7 +86,8 @@ fn take_digit(job: &Job, lent: Lent, run: &mut Run) -> Result<(), u8> {
 
 /// "4. Some U_b includes X·W_held: let b be the smallest."
 fn digit_that_fits(job: &Job, named: Interval) -> Option<u8> {
-    let u = |b: u8| w(&job.output[b as usize]);
+    let rows = if planted(Fault::FourDigitsAreR) && job.output.len() == R.len() { &R[..] } else { &job.output };
+    let u = |b: u8| w(&rows[b as usize]);
     let mut fitting = (0..job.output.len() as u8).filter(|&b| included(named, u(b)));
     if planted(Fault::LastDigit) {
         return fitting.last();
@@ -141,9 +142,10 @@ struct Cancelled {
 /// "The range is tested after cancelling."
 fn cancelled(m: Matrix) -> Cancelled {
     let limit = if planted(Fault::RangeOneLess) { 999_999_999 } else { 1_000_000_000 };
-    let tested = if planted(Fault::RangeFirst) { m } else { cancel(m) };
-    let divisor = if planted(Fault::DivisorOfTwo) { gcd(&m[..2]) } else { gcd(&m) };
-    Cancelled { x: cancel(m), divisor, in_range: tested.iter().all(|n| n.abs() <= limit) }
+    let (x, divisor) = if planted(Fault::CancelsTwoAlone) && gcd(&m) != 2 { (m, 1) } else { (cancel(m), gcd(&m)) };
+    let tested = if planted(Fault::RangeFirst) { m } else { x };
+    let divisor = if planted(Fault::DivisorOfTwo) { gcd(&m[..2]) } else { divisor };
+    Cancelled { x, divisor, in_range: tested.iter().all(|n| n.abs() <= limit) }
 }
 
 /// "15, the list is full, in steps 4 and 5, after 20 and before 22" (T-02).
