@@ -1,10 +1,11 @@
-/* Times the proved library against plain C of the same algorithm (bench/plain.c), both compiled by one compiler into one program, by turns in one run. The best of many
-   rounds counts on either side. Behind its last round a case's answers are compared: the counts, the digits, the divisors and how often a session was opened again. bench/run
-   builds, runs and keeps the table. */
+/* Times the proved library against plain C, to the letter of document 01 (bench/plain.c) and doing the same as the library (bench/same.c): three sides, compiled by one compiler
+   into one program, by turns in one run. The best of many rounds counts on each side. Behind its last round a case's answers are compared: the counts, the digits, the divisors
+   and how often a session was opened again. bench/run builds, runs and keeps the table. */
 #include "plain.h"
 #include "sledhillock.h"
 
 int printf(const char *format, ...);
+int atoi(const char *text);
 void *memcpy(void *to, const void *from, size_t n);
 int memcmp(const void *a, const void *b, size_t n);
 struct timespec {
@@ -77,10 +78,12 @@ static struct system random_16(void) {
 
 /* ---- cases */
 
+enum { LETTER, SAME, PROVED, SIDES };
+
 /* a step that lists a divisor writes a digit or absorbs one that was taken: so a list of LISTED places is never full */
 enum { LONG = 20000, ROOM = 64 * LONG, LISTED = LONG + ROOM };
-static u8 word[LONG], output[2][ROOM];
-static u64 divisors[2][LISTED];
+static u8 word[LONG], output[SIDES][ROOM];
+static u64 divisors[SIDES][LISTED];
 
 struct job {
     const struct system *ins, *outs;
@@ -123,57 +126,62 @@ static struct reopening {
 } reopened[20];
 static int reopenings;
 
-static void report(const char *name, double plain, double proved, double digits, const char *unit) {
-    printf("| %s | %.1f | %.1f | %s | %.2f |\n", name, digits / plain, digits / proved, unit, plain / proved);
+/* A row of the table: how much a second each side has done, and what the proved one has done for 1 of another. A side that was not timed has time 0, and empty cells. Ratios are
+   rounded down, so that none reaches a bar by rounding. */
+static void report(const char *name, const double *best, double done, const char *unit) {
+    printf("| %s |", name);
+    for (int side = 0; side < SIDES; side++) best[side] == 0 ? printf(" |") : printf(" %.1f |", done / best[side]);
+    printf(" %s |", unit);
+    for (int side = 0; side < PROVED; side++) best[side] == 0 ? printf(" |") : printf(" %.2f |", (double)(long)(100 * best[side] / best[PROVED]) / 100);
+    printf("\n");
 }
 
-/* whether both sides counted, stopped, wrote and listed the same */
-static int same(usize counts[2][SLED_COUNTS], const usize *stops) {
-    return memcmp(counts[0], counts[1], sizeof counts[0]) == 0 && stops[0] == stops[1] && memcmp(output[0], output[1], counts[0][1]) == 0 &&
-           memcmp(divisors[0], divisors[1], counts[0][2] * sizeof **divisors) == 0;
+/* whether a side counted, stopped, wrote and listed as the first one did */
+static int agrees(int side, usize counts[SIDES][SLED_COUNTS], const usize *stops) {
+    return memcmp(counts[0], counts[side], sizeof counts[0]) == 0 && stops[0] == stops[side] && memcmp(output[0], output[side], counts[0][1]) == 0 &&
+           memcmp(divisors[0], divisors[side], counts[0][2] * sizeof **divisors) == 0;
 }
 
 static void time_run(const char *name, const struct job *j, int rounds) {
-    run_call *calls[2] = {plain_run, proved_run};
-    usize counts[2][SLED_COUNTS], stops[2];
-    double best[2] = {1e9, 1e9};
+    run_call *calls[SIDES] = {plain_run, same_run, proved_run};
+    usize counts[SIDES][SLED_COUNTS], stops[SIDES];
+    double best[SIDES] = {1e9, 1e9, 1e9};
     for (int r = 0; r < rounds; r++)
-        for (int side = 0; side < 2; side++) {
+        for (int side = 0; side < SIDES; side++) {
             double start = now();
             round_of(calls[side], j, output[side], divisors[side], counts[side], &stops[side]);
             double time = now() - start;
             if (time < best[side]) best[side] = time;
         }
-    if (!same(counts, stops)) {
-        printf("%s: the two sides answer differently\n", name);
+    if (!agrees(SAME, counts, stops) || !agrees(PROVED, counts, stops)) {
+        printf("%s: the sides answer differently\n", name);
         wrong = 1;
     }
-    double digits = (double)counts[0][0];
     if (j->length == 1)
-        report(name, best[0], best[1], (double)j->calls * 1e-6, "million calls a second");
+        report(name, best, (double)j->calls * 1e-6, "million calls a second");
     else
-        report(name, best[0], best[1], digits * 1e-6, "million digits taken a second");
+        report(name, best, (double)counts[0][0] * 1e-6, "million digits taken a second");
     if (stops[0] != 0) reopened[reopenings++] = (struct reopening){name, stops[0]};
 }
 
+/* of two sides: plain C admits in one way alone */
 static void time_admit(const char *name, const struct system *s, int rounds) {
-    admit_call *calls[2] = {plain_admit, sled_admit};
-    double best[2] = {1e9, 1e9};
-    u32 sum[2] = {0, 0};
+    admit_call *calls[SIDES] = {[LETTER] = plain_admit, [PROVED] = sled_admit};
+    double best[SIDES] = {[LETTER] = 1e9, [PROVED] = 1e9};
+    u32 sum = 0;
     for (int r = 0; r < rounds; r++)
-        for (int side = 0; side < 2; side++) {
+        for (int side = 0; side < SIDES; side++) {
+            if (calls[side] == 0) continue;
             double start = now();
-            u32 total = 0;
-            for (int k = 0; k < 1000; k++) total += calls[side](s->digits, s->columns, SLED_COLUMNS);
+            for (int k = 0; k < 1000; k++) sum += calls[side](s->digits, s->columns, SLED_COLUMNS);
             double time = now() - start;
-            sum[side] = total;
             if (time < best[side]) best[side] = time;
         }
-    if (sum[0] != 0 || sum[1] != 0) {
+    if (sum != 0) {
         printf("%s: not admitted\n", name);
         wrong = 1;
     }
-    report(name, best[0], best[1], 1000 * 1e-6, "million systems a second");
+    report(name, best, 1000 * 1e-6, "million systems a second");
 }
 
 /* a word of digits 0 to n - 1 */
@@ -202,11 +210,11 @@ static void word_of(const struct system *s) {
 }
 
 int main(int argc, char **argv) {
-    int rounds = argc > 1 && argv[1][0] == 'q' ? 30 : 300;
+    int rounds = argc > 1 ? atoi(argv[1]) : 300;
     sled_system_r(R.columns, SLED_COLUMNS);
     sled_system_b(B.columns, SLED_COLUMNS);
     sled_system_d(D.columns, SLED_COLUMNS);
-    printf("| case | plain C | proved | unit | proved / plain |\n|---|---|---|---|---|\n");
+    printf("| case | to the letter | the same | proved | unit | proved / to the letter | proved / the same |\n|---|---|---|---|---|---|---|\n");
     random_word(2);
     time_run("R to R, 2 1 1 2, long word", &(struct job){&R, &R, {2, 1, 1, 2}, LONG, 1}, rounds);
     time_run("R to R, 5 2 3 4, long word", &(struct job){&R, &R, {5, 2, 3, 4}, LONG, 1}, rounds);
@@ -227,7 +235,7 @@ int main(int argc, char **argv) {
     time_admit("admission of R", &R, rounds);
     time_admit("admission of B", &B, rounds);
     time_admit("admission of a random 16", &random[0], rounds);
-    printf("\nWhere the state leaves its range (end 22) the session is opened again, which costs both sides a call:");
+    printf("\nWhere the state leaves its range (end 22) the session is opened again, which costs every side a call:");
     for (int k = 0; k < reopenings; k++) printf("%s %s, %lu times a round", k == 0 ? "" : ";", reopened[k].name, reopened[k].times);
     printf(".\n");
     return wrong;
