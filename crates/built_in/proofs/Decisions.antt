@@ -1,5 +1,5 @@
 -- Answers that decide, put together: two tests in a row decide whether both sentences hold; and who decides a sentence decides one that says the same.
-use Rattle.whole.proofs.Laws.{_≡_, Bool, true, false, _&&_, both-true, true≢false}
+use Rattle.whole.proofs.Laws.{_≡_, Bool, true, false, _&&_, both-true}
 use Rattle.built_in.specs.Recognised.{Decides}
 
 pub both : {p q : Bool} {P Q : Type 0} → Decides p P → Decides q Q → Decides (p && q) (P × Q)

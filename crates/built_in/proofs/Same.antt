@@ -1,6 +1,6 @@
 -- A system that has the rows of a table has the table's digits, whatever stands in unused places; and one with another count hasn't its rows.
 use Rattle.whole.proofs.Laws.{_≡_, sym, ap, _∙_, subst, false, false≢true, List, ℕ, _*_, arith, length, at, ℤ}
-use Rattle.digits.proofs.Laws.{SameDigits, lent, tableOf, joined, asWritten, byColumn, rowsIn, rows-length, number-in-rows, same-numbers}
+use Rattle.digits.proofs.Laws.{SameDigits, lent, tableOf, joined, asWritten, byColumn, rows-length, number-in-rows, same-numbers}
 use Rattle.digits.specs.Orders.{byRow}
 use Rattle.built_in.specs.Recognised.{Decides, IsTable}
 

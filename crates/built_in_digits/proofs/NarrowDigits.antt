@@ -1,8 +1,8 @@
 -- Every interval of B is narrower than a right angle: the checker computes it of the table that document 01 prints. So a wide image is included in none of them.
-use Rattle.whole.proofs.Laws.{_≡_, refl, sym, ap, Bool, true, _&&_, List, ℕ, _<_, arith, ltZ, lt-true, both-true, pos, ℤ, everyBelow?, every-passes, first, none-first}
+use Rattle.whole.proofs.Laws.{_≡_, refl, sym, ap, Bool, true, _&&_, List, ℕ, arith, ltZ, lt-true, both-true, pos, ℤ, everyBelow?, every-passes, first, none-first}
 use Rattle.plane.proofs.Laws.{Interval, det, left, right, dot}
 use Rattle.inclusion.proofs.Laws.{wide?, wide-not-included}
-use Rattle.digits.proofs.Laws.{System, tableOf, printedB, interval, intervalBy, fourBy}
+use Rattle.digits.proofs.Laws.{tableOf, printedB, interval, intervalBy, fourBy}
 use Rattle.fitting.proofs.Laws.{Missing, fitting, fits?, fittingOf}
 
 -- an interval narrower than a right angle

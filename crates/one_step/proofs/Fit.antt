@@ -1,5 +1,5 @@
 -- The digit that was found to fit, as `Fitting` and as the plan's choice; and that it can be given out.
-use Rattle.whole.proofs.Laws.{_≡_, refl, sym, ap, subst, _∙_, Bool, true, List, Option, none, some, ℕ, _<_, arith, ℤ}
+use Rattle.whole.proofs.Laws.{_≡_, refl, Bool, true, List, Option, none, some, ℕ, _<_, arith, ℤ}
 use Rattle.digits.proofs.Laws.{SameDigits, Columns, lent, tableOf, rowsR, digit-there}
 use Rattle.fitting.proofs.Laws.{fits, fitting}
 use Rattle.states.proofs.Laws.{State}

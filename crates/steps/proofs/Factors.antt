@@ -1,6 +1,6 @@
 -- The products of a step can be formed and cancelled: a state's entries lie within 1,000,000,000 and a digit's numbers within 100, so those of the product lie within
 -- 200,000,000,000; and what is cancelled divides the digit's determinant (`divisor-divides`), which is above 0 and, of numbers within 100, at most 20,000.
-use Rattle.whole.proofs.Laws.{_≡_, List, ℕ, _∣_, _≤_, arith, ℤ, pos, natAbs, _<ℤ_, gcd4, Within, within-le, near-mul, near-sub, le-trans}
+use Rattle.whole.proofs.Laws.{_≡_, List, ℕ, _≤_, ℤ, pos, natAbs, _<ℤ_, gcd4, Within, within-le, near-mul, near-sub, le-trans}
 use native.Mathlib.Nat.{pos-of-dvd-of-pos, le-of-dvd}
 use Rattle.plane.proofs.Laws.{determinantOf, multiplyOf, pseudoinverseOf, divisor-divides, divisor-divides-given, size-above, multiply-within, pseudoinverse-within}
 use Rattle.digits.proofs.Laws.{transformationAt}

@@ -1,5 +1,5 @@
 -- `built_in::is_b` meets its contract: eight digits, with B's rows as document 01 prints them (`b-by-symmetry`).
-use Rattle.whole.proofs.Laws.{needs, _≡_, refl, sym, ap, _∙_, [], _++_, List, ℕ, _*_, _≤_, arith, take, drop, now, ℤ, false≢true}
+use Rattle.whole.proofs.Laws.{needs, _≡_, refl, sym, ap, _∙_, [], _++_, List, _≤_, arith, take, drop, now, ℤ, false≢true}
 use Rattle.digits.proofs.Laws.{rowsB, printedB, b-by-symmetry, joined, rowAt, rowsIn, tabulated}
 use Rattle.built_in.specs.Recognised.{IsTable, rowIn}
 use Rattle.built_in.proofs.Decisions.{both, same-sentence}

@@ -1,6 +1,6 @@
 -- `built_in::is_r` meets its contract: four digits, with R's rows.
-use Rattle.whole.proofs.Laws.{needs, _≡_, refl, sym, [], _++_, List, ℕ, _*_, arith, take, drop, now, ℤ, false≢true}
-use Rattle.digits.proofs.Laws.{rowsR, rowAt, rowsIn, rows-length, tabulated}
+use Rattle.whole.proofs.Laws.{needs, _≡_, refl, sym, [], _++_, List, take, drop, now, ℤ}
+use Rattle.digits.proofs.Laws.{rowsR, rowAt, rowsIn, tabulated}
 use Rattle.built_in.specs.Recognised.{IsTable, rowIn}
 use Rattle.built_in.proofs.Decisions.{both, same-sentence}
 use Rattle.built_in.proofs.Same.{other-count, counted}

@@ -1,10 +1,9 @@
 -- `one_step::emit` meets its contract: lines 4 and 5 of a step. What was found to fit is the plan's choice, however it was searched for.
-use Rattle.whole.proofs.Laws.{needs, _≡_, refl, sym, ap, subst, _∙_, false≢true, now, List, Option, ℕ, _-_}
+use Rattle.whole.proofs.Laws.{_≡_, sym, ap, subst, _∙_, false≢true, now, List, Option, ℕ, _-_}
 use Rattle.plane.proofs.Laws.{imageOf}
 use Rattle.digits.proofs.Laws.{lent, tableOf, rowsR, interval}
 use Rattle.fitting.proofs.Laws.{Fitting, fits, fitting, fittingOf, same-fitting}
-use Rattle.states.proofs.Laws.{State}
-use Rattle.steps.proofs.Laws.{Move, Setting, setting, oneWord, chosen, heldPlan, emitPlan, Follows, WorksWhere}
+use Rattle.steps.proofs.Laws.{Move, Setting, setting, oneWord, chosen, heldPlan, emitPlan, Follows}
 use Rattle.one_step.proofs.Fit.{fits-back, count-free, works-where}
 use Rattle.one_step.proofs.emit.Statement.{statement}
 use Rattle.one_step.proofs.emit.Tie as tie

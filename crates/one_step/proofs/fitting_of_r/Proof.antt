@@ -1,6 +1,6 @@
 -- `one_step::fitting_of_r` meets its contract, by those of its two calls.
 use Rattle.whole.proofs.Laws.{needs, sym, ap, subst, _∙_, Within, within-le, List, ℤ}
-use Rattle.plane.proofs.Laws.{Interval, imageOf, image-within, interval-moves}
+use Rattle.plane.proofs.Laws.{Interval, image-within, interval-moves}
 use Rattle.digits.proofs.Laws.{tableOf, rowsR}
 use Rattle.built_in_digits.proofs.Laws.{r-digit}
 use Rattle.fitting.proofs.Laws.{fitting, fittingOf}

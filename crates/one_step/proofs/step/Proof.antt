@@ -1,9 +1,9 @@
 -- `one_step::step` meets its contract, by the two cases of what is held.
-use Rattle.whole.proofs.Laws.{needs, _≡_, refl, sym, subst, List, Option, none, some, ℕ, _-_, _<_, drop, ℤ, now}
+use Rattle.whole.proofs.Laws.{needs, _≡_, sym, subst, List, ℕ, _-_, _<_, drop, ℤ, now}
 use Rattle.digits.proofs.Laws.{System, Columns, lent, digit-there}
 use Rattle.runs.proofs.Laws.{Supply, Plan}
 use Rattle.states.proofs.Laws.{Held, Digit, State, Stop, HeldDigit}
-use Rattle.steps.proofs.Laws.{Move, Setting, setting, oneWord, chosen, heldPlan, emitPlan, planBy, Follows, WorksWith, Ready}
+use Rattle.steps.proofs.Laws.{Move, Setting, setting, oneWord, chosen, emitPlan, planBy, Follows, WorksWith, Ready}
 use Rattle.one_step.proofs.Fit.{count-free, of-r}
 use Rattle.one_step.proofs.step.Statement.{statement}
 use Rattle.one_step.proofs.step.Tie as tie

@@ -1,5 +1,5 @@
 -- `steps::given_product` meets its contract: by the constants of R, where nothing is cancelled, or from the digit's transformation, cancelled by its determinant.
-use Rattle.whole.proofs.Laws.{needs, _≡_, refl, sym, ap, subst, subst₂, _∙_, List, ℕ, natAbs, ℤ, now, gcd4, length, Within, within-le}
+use Rattle.whole.proofs.Laws.{needs, _≡_, refl, sym, ap, subst, subst₂, _∙_, List, ℕ, natAbs, ℤ, now, gcd4, Within, within-le}
 use Rattle.plane.proofs.Laws.{cancelOf, determinantOf, multiplyOf, pseudoinverseOf, within-products}
 use Rattle.digits.proofs.Laws.{transformationAt}
 use Rattle.built_in_digits.proofs.Laws.{r-determinant}
