@@ -1,4 +1,5 @@
--- What it is for a system to be a built-in one: "count 4 and R's numbers; unused places don't count" (document 02, T-06, of R).
+-- What it is for a system to be a built-in one: it has as many digits, with the same numbers, whatever stands in unused places. (No document's words: a
+-- run answers the same whether it looks for this or not.)
 use mathlib.Core.Path.{_≡_}
 use mathlib.Core.Bool.{Bool, true, false}
 use mathlib.Core.List.{List}

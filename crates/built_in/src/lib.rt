@@ -6,7 +6,7 @@ ghost use Rattle.digits.specs.BuiltIn.{rowsR, rowsB};
 ghost use Rattle.digits.specs.Orders.{Columns, DigitThere};
 ghost use Rattle.built_in.specs.Recognised.{Decides, IsTable, rowIn};
 
-// So many bytes of input are worth the look: it costs about as much as the steps of a few digits do.
+// With fewer bytes of input a run does not look. With so many it pays; from how many on it does was not searched for (docs/DECISIONS.md).
 const WORTH: usize = 8;
 
 // Whether digit a has these eight numbers.
@@ -39,7 +39,7 @@ fn is_r(count: usize, columns: &[i16]) -> bool
     r0 & r1 & r2 & r3
 }
 
-// Whether both systems of a run are R. Where few bytes of input come it is not worth the look, and the answer is no.
+// Whether both systems of a run are R. Where fewer bytes of input come than WORTH, it does not look, and the answer is no.
 pub fn both_r(
     bytes: usize,
     input_count: usize,
