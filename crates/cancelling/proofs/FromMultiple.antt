@@ -45,5 +45,24 @@ shared-greatest {k} m d v p =
     gcd-greatest (natAbs (at m 3)) s2 k (v .d3) (gcd-greatest (natAbs (at m 2)) s1 k (v .d2)
     (gcd-greatest (natAbs (at m 1)) s0 k (v .d1) (gcd-greatest (natAbs (at m 0)) d k (v .d0) p)))
 
-pub of-multiple : (m : List ℤ) (d : ℕ) → gcd4 m ∣ d → sharedBy m d ≡ gcd4 m
-of-multiple m d p = N.dvd-antisymm (gcd4-greatest (shared-divides m d)) (shared-greatest m d (gcd4-divides m) p)
+shared-divides-d : (m : List ℤ) (d : ℕ) → sharedBy m d ∣ d
+shared-divides-d m d =
+    let s0 = gcd (natAbs (at m 0)) d in
+    let s1 = gcd (natAbs (at m 1)) s0 in
+    let s2 = gcd (natAbs (at m 2)) s1 in
+    let in1 = N.dvd-trans (sharedBy m d) (gcd-divides-right (natAbs (at m 3)) s2) (gcd-divides-right (natAbs (at m 2)) s1) in
+    N.dvd-trans (sharedBy m d) (N.dvd-trans (sharedBy m d) in1 (gcd-divides-right (natAbs (at m 1)) s0)) (gcd-divides-right (natAbs (at m 0)) d)
+
+pub dvd4-trans : {k g : ℕ} {m : List ℤ} → k ∣ g → Divides4 g m → Divides4 k m
+dvd4-trans {k} p v = record { d0 = N.dvd-trans k p (v .d0); d1 = N.dvd-trans k p (v .d1); d2 = N.dvd-trans k p (v .d2); d3 = N.dvd-trans k p (v .d3) }
+
+-- it is the greatest common divisor of the four and d
+pub shared-is : (m : List ℤ) (d : ℕ) → sharedBy m d ≡ gcd (gcd4 m) d
+shared-is m d =
+    N.dvd-antisymm
+    (gcd-greatest (gcd4 m) d (sharedBy m d) (gcd4-greatest (shared-divides m d)) (shared-divides-d m d))
+    (shared-greatest m d (dvd4-trans (gcd-divides-left (gcd4 m) d) (gcd4-divides m)) (gcd-divides-right (gcd4 m) d))
+
+-- where the divisor of the four divides d, it is that
+pub of-multiple : (m : List ℤ) (d : ℕ) → gcd4 m ∣ d → gcd (gcd4 m) d ≡ gcd4 m
+of-multiple m d p = N.dvd-antisymm (gcd-divides-left (gcd4 m) d) (gcd-greatest (gcd4 m) d (gcd4 m) (N.dvd-refl (gcd4 m)) p)

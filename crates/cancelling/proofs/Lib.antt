@@ -2,7 +2,8 @@
 -- divides, too (proofs/Divides.antt).
 --   FromDivisor     a matrix cancelled, from its divisor
 --   FromMultiple    the divisor, from a number that it divides
---   Halves          even numbers on machine words, and their halves
+--   EvenNumbers    even numbers on machine words, and their halves
+pub mod Laws
 mod FromDivisor
 mod FromMultiple
-mod Halves
+mod EvenNumbers

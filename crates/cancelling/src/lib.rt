@@ -31,7 +31,7 @@ pub fn divisor(m: [i64; 4]) -> u64
 }
 
 // The four numbers divided by a divisor of them. Signs stay.
-fn quotients(m: [i64; 4], g: u64) -> [i64; 4]
+pub fn quotients(m: [i64; 4], g: u64) -> [i64; 4]
     requires { ⌜ (Divides4 g m) × (0 < g) × (g < 9223372036854775808) ⌝ }
     ensures { λ r. ⌜ r ≡ divided m g ⌝ }
 {
@@ -68,14 +68,21 @@ pub fn cancel(m: [i64; 4]) -> Cancelled
 }
 
 // Whether four numbers are all even. All four are looked at, so that there is nothing to branch on but the answer.
-fn even(m: [i64; 4]) -> bool
+pub fn even(m: [i64; 4]) -> bool
     ensures { λ r. ⌜ (r ≡ true) ↔ Divides4 2 m ⌝ }
 {
     (m[0] % 2 == 0) & (m[1] % 2 == 0) & (m[2] % 2 == 0) & (m[3] % 2 == 0)
 }
 
-// A matrix whose divisor divides 2, cancelled: the divisor is 2 where all four entries are even, and else 1. A shift rounds down, but an even number has
-// nothing to round, so that "Signs stay".
+// The halves of four even numbers. A shift rounds down, but an even number has nothing to round, so that "Signs stay".
+pub fn halves(m: [i64; 4]) -> [i64; 4]
+    requires { ⌜ Divides4 2 m ⌝ }
+    ensures { λ r. ⌜ r ≡ divided m 2 ⌝ }
+{
+    [m[0] >> 1, m[1] >> 1, m[2] >> 1, m[3] >> 1]
+}
+
+// A matrix whose divisor divides 2, cancelled: the divisor is 2 where all four entries are even, and else 1.
 fn halved(m: [i64; 4]) -> Cancelled
     requires { ⌜ gcd4 m ∣ 2 ⌝ }
     ensures { λ r. ⌜ (r .divisor ≡ gcd4 m) × (r .matrix ≡ cancelOf m) ⌝ }
@@ -83,7 +90,7 @@ fn halved(m: [i64; 4]) -> Cancelled
     if even(m) {
         return Cancelled {
             divisor: 2,
-            matrix: [m[0] >> 1, m[1] >> 1, m[2] >> 1, m[3] >> 1],
+            matrix: halves(m),
         };
     }
     Cancelled {
@@ -92,10 +99,9 @@ fn halved(m: [i64; 4]) -> Cancelled
     }
 }
 
-// The greatest common divisor of the four entries, where it divides d: behind the first remainder of each entry no number in Euclid is above d.
-fn shared(m: [i64; 4], d: u64) -> u64
-    requires { ⌜ gcd4 m ∣ d ⌝ }
-    ensures { λ r. ⌜ r ≡ gcd4 m ⌝ }
+// The greatest common divisor of the four entries and d: behind the first remainder of each entry no number in Euclid is above d.
+pub fn shared(m: [i64; 4], d: u64) -> u64
+    ensures { λ r. ⌜ r ≡ gcd (gcd4 m) d ⌝ }
 {
     whole::gcd(
         whole::magnitude(m[3]),

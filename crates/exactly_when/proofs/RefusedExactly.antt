@@ -8,7 +8,7 @@ use Rattle.admission.proofs.Laws.{Admitted, admissionOf, refusalNumber, Admissi
 use Rattle.admission.specs.Types.{Admission}
 use Rattle.states.proofs.Laws.{State}
 use Rattle.steps.proofs.Laws.{Setting}
-use Rattle.judging.proofs.Laws.{refusalOf, state?, state-says, accepted}
+use Rattle.judging.proofs.Laws.{refusalBy, refusalOf, state?, state-says, accepted}
 use Rattle.exactly_when.specs.Ends.{RefusedBy, input-system, output-system, state, Passes}
 
 -- the number of a refused system is not 0
@@ -21,7 +21,7 @@ refused-not-0 (output-system a v c f) = not-0 v f
 refused-not-0 (state a b f) = λ e. omega (arith, e)
 
 pub refused-only : {y : Setting} {s : State} {n : ℕ} → RefusedBy y s n → refusalOf y s ≡ n
-unfolding refusalOf unlessRefused
+unfolding refusalOf refusalBy unlessRefused
 refused-only {y} {s} (input-system v c f) = rw (admitted-exactly (y .input) v .1 c) (decided _ _ (not-0 v f))
 refused-only {y} {s} (output-system a v c f) = rw (admitted-exactly (y .input) Admitted .1 a, admitted-exactly (y .output) v .1 c) (decided _ _ (not-0 v f))
 refused-only {y} {s} (state a b f) =

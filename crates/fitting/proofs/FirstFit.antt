@@ -1,9 +1,9 @@
 -- What the search says: it finds the first digit of the system that passes, and none exactly if none passes; what is kept for digits that a system hasn't got changes
 -- nothing.
-use Rattle.whole.proofs.Laws.{_≡_, ap, _∙_, true, false, List, _↔_, Option, none, some, ℕ, _<_, _≤_, arith, ℤ, first, first-found, first-none, found-first, none-first, first-same}
+use Rattle.whole.proofs.Laws.{_≡_, refl, ap, _∙_, true, false, List, _↔_, Option, none, some, ℕ, _<_, _≤_, arith, ℤ, first, first-found, first-none, found-first, none-first, first-same}
 use Rattle.inclusion.proofs.Laws.{included?}
 use Rattle.digits.proofs.Laws.{System, SameDigits}
-use Rattle.fitting.specs.FirstFit.{fits?, fittingOf}
+use Rattle.fitting.specs.FirstFit.{fits?, fittingOf, fitting, fits}
 
 -- a digit that passes with none before it that does; or none passes
 abbrev pub FirstFits : System → List ℤ → Option ℕ → Type 0
@@ -26,3 +26,8 @@ unfolding fittingOf
 same-fitting {s} {t} same few image =
     first-same (fits? s image) (fits? t image) (s .count) 0 (λ b i k. ap (included? image) (same .intervals few b (omega arith))) ∙
     ap (λ (n : ℕ). first (fits? t image) n 0) (same .count)
+
+-- `Fitting` stands for what was found
+pub fits-back : (o : Option ℕ) → fits (fitting o) ≡ o
+fits-back none = refl
+fits-back (some b) = refl

@@ -20,7 +20,7 @@ pub of-the : {bytes : List ℕ} {h : Held} {Claim : List ℕ → Type 0} → OfT
 of-the {Claim = Claim} o absorbed e = subst Claim (sym (o .no-other absorbed e)) (o .holds)
 
 -- a whole number above 0 is a natural one
-natural : {z : ℤ} → pos 0 <ℤ z → (n : ℕ) × (0 < n) × (pos n ≡ z)
+pub natural : {z : ℤ} → pos 0 <ℤ z → (n : ℕ) × (0 < n) × (pos n ≡ z)
 natural h =
     let g = gap (≤-of-< h) in
     let e = g .1 ∙ +ℤ-idl (pos (g .0)) in

@@ -13,7 +13,7 @@ use Rattle.runs.proofs.Laws.{Deed, nothing, follow, runBy, run, judgedRun}
 use Rattle.states.proofs.Laws.{Nothing, Digit, State}
 use Rattle.fitting.proofs.Laws.{fittingOf}
 use Rattle.opening.proofs.Laws.{openOf}
-use Rattle.judging.proofs.Laws.{state?, refusalOf}
+use Rattle.judging.proofs.Laws.{state?, refusalBy, refusalOf}
 use Rattle.unary.proofs.Laws.{courseOf}
 use Rattle.meaning.specs.Names.{namedFrom, productOf, determinantsOf, timesAll, EachInItsInterval, UpToScale}
 use Rattle.meaning.specs.Session.{Session}
@@ -40,23 +40,23 @@ new = newly-opened r-admitted r-admitted refl
 
 pub whole-word : SessionR (done (0 ∷ 0 ∷ 1 ∷ []) (0 ∷ 1 ∷ 1 ∷ []) (1 ∷ 1 ∷ 1 ∷ 1 ∷ 1 ∷ 1 ∷ [])) (record { matrix = four 2 1 1 2; held = Nothing })
 unfolding stored admissionOf rowsVerdict rowVerdict within? gcd gcd4 gcdBy transformationBy intervalBy first unlessRefused closed? same? included? determinantOf
-    pseudoinverseOf apply multiplyOf imageOf cancelOf formOf expands? state? fittingOf follow runBy run refusalOf judgedRun courseOf
+    pseudoinverseOf apply multiplyOf imageOf cancelOf formOf expands? state? fittingOf follow runBy run refusalOf refusalBy judgedRun courseOf
 whole-word = called-again new (0 ∷ 0 ∷ 1 ∷ []) (replicate 8 0) (replicate 9 0)
 
 pub half-way : SessionR (done (0 ∷ 0 ∷ 1 ∷ []) (0 ∷ 1 ∷ []) (1 ∷ 1 ∷ 1 ∷ 1 ∷ [])) (record { matrix = four 3 0 1 1; held = Digit 1 })
 unfolding stored admissionOf rowsVerdict rowVerdict within? gcd gcd4 gcdBy transformationBy intervalBy first unlessRefused closed? same? included? determinantOf
-    pseudoinverseOf apply multiplyOf imageOf cancelOf formOf expands? state? fittingOf follow runBy run refusalOf judgedRun courseOf
+    pseudoinverseOf apply multiplyOf imageOf cancelOf formOf expands? state? fittingOf follow runBy run refusalOf refusalBy judgedRun courseOf
 half-way = called-again new (0 ∷ 0 ∷ 1 ∷ []) (replicate 2 0) (replicate 9 0)
 
 pub two-calls : SessionR (done (0 ∷ 0 ∷ 1 ∷ []) (0 ∷ 1 ∷ 1 ∷ []) (1 ∷ 1 ∷ 1 ∷ 1 ∷ 1 ∷ 1 ∷ [])) (record { matrix = four 2 1 1 2; held = Nothing })
 unfolding stored admissionOf rowsVerdict rowVerdict within? gcd gcd4 gcdBy transformationBy intervalBy first unlessRefused closed? same? included? determinantOf
-    pseudoinverseOf apply multiplyOf imageOf cancelOf formOf expands? state? fittingOf follow runBy run refusalOf judgedRun courseOf
+    pseudoinverseOf apply multiplyOf imageOf cancelOf formOf expands? state? fittingOf follow runBy run refusalOf refusalBy judgedRun courseOf
 two-calls = called-again half-way [] (replicate 6 0) (replicate 9 0)
 
 -- P6: B to B, M 1 0 0 1, word 1. The divisors of its two steps 4 and 5 are 1 and 2.
 pub cancelled-word : Session B B (four 1 0 0 1) (done (1 ∷ []) (1 ∷ []) (1 ∷ 2 ∷ [])) (record { matrix = four 1 0 0 1; held = Nothing })
 unfolding openOf stored rowsIn rowsB admissionOf rowsVerdict rowVerdict within? gcd gcd4 gcdBy transformationBy intervalBy first unlessRefused closed? same? included? determinantOf
-    pseudoinverseOf apply multiplyOf imageOf cancelOf formOf expands? state? fittingOf follow runBy run refusalOf judgedRun courseOf
+    pseudoinverseOf apply multiplyOf imageOf cancelOf formOf expands? state? fittingOf follow runBy run refusalOf refusalBy judgedRun courseOf
 cancelled-word = called-again (newly-opened b-admitted b-admitted refl) (1 ∷ []) (replicate 2 0) (replicate 3 0)
 
 -- ---- the product, in plain numbers

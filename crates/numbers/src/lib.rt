@@ -51,7 +51,7 @@ pub fn matrix_from(numbers: &[i64]) -> [i64; 4]
 }
 
 // What the fifth number of a state stands for.
-fn held_from(z: i64) -> Held
+pub fn held_from(z: i64) -> Held
     ensures { λ r. ⌜ r ≡ heldFrom z ⌝ }
 {
     if z < -1 {
@@ -90,7 +90,7 @@ pub fn put_matrix(m: [i64; 4], to: &mut [i64])
 }
 
 // The number of a held digit, or −1.
-fn held_number(h: Held) -> i64
+pub fn held_number(h: Held) -> i64
     ensures { λ r. ⌜ r ≡ heldNumber h ⌝ }
 {
     match h {

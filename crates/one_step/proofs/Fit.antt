@@ -1,13 +1,8 @@
--- The digit that was found to fit, as `Fitting` and as the plan's choice; and that it can be given out.
+-- The digit that was found to fit, as the plan's choice; and that it can be given out.
 use Rattle.whole.proofs.Laws.{_≡_, refl, Bool, true, List, Option, none, some, ℕ, _<_, arith, ℤ}
 use Rattle.digits.proofs.Laws.{SameDigits, Columns, lent, tableOf, rowsR, digit-there}
-use Rattle.fitting.proofs.Laws.{fits, fitting}
 use Rattle.states.proofs.Laws.{State}
 use Rattle.steps.proofs.Laws.{setting, chosen, heldPlan, Usable, WorksWith, WorksWhere, OfR, chosen-below}
-
-pub fits-back : (o : Option ℕ) → fits (fitting o) ≡ o
-fits-back none = refl
-fits-back (some b) = refl
 
 -- the counts of the two systems do not matter once the choice is made
 pub count-free : (m n m′ n′ : ℕ) (in-columns out-columns : List ℤ) (s : State) (h : ℕ) (o : Option ℕ) →

@@ -105,9 +105,12 @@ cancel-only-four {n = n} f p t e = four n f ∙ cancel-only p t e
 by-one : (z : ℤ) → z ≡ quotZ z (pos 1)
 by-one z = sym (quot-exact z 1 (one-dvd (natAbs z))) ∙ law 1 (λ x. # 1 ⊗ x ≗ x) tt (quotZ z (pos 1))
 
+pub divided-by-one : (m : List ℤ) → length m ≡ 4 → {g : ℕ} → g ≡ 1 → m ≡ divided m g
+divided-by-one m f e = four m f ∙ four-equal (by-one (at m 0)) (by-one (at m 1)) (by-one (at m 2)) (by-one (at m 3)) ∙ ap (divided m) (sym e)
+
 pub cancel-kept : (m : List ℤ) → length m ≡ 4 → gcd4 m ≡ 1 → m ≡ cancelOf m
 unfolding cancelOf
-cancel-kept m f e = four m f ∙ four-equal (by-one (at m 0)) (by-one (at m 1)) (by-one (at m 2)) (by-one (at m 3)) ∙ ap (divided m) (sym e)
+cancel-kept m f e = divided-by-one m f e
 
 -- ---- all of it
 

@@ -21,15 +21,16 @@ pub use Rattle.plane.proofs.Ends.{ends-scaled, inside-ends, inside-ends
 -- "So (1/0, 1/−1) runs from infinity to −1"
 pub use Rattle.plane.proofs.Below.{infinity-to-minus-1, from-infinity-to-minus-1}
 -- cancelling
-pub use Rattle.plane.proofs.Cancelling.{times-entries, scale-times, divisor-above, cancel-times, cancel-lowest, cancel-kept, cancel-det-above, CancelSays, cancel-says}
-pub use Rattle.plane.proofs.Divides.{size-above, divisor-divides, divisor-divides-given}
+pub use Rattle.plane.proofs.Cancelling.{times-entries, scale-times, divisor-above, cancel-times, cancel-lowest, divided-by-one, cancel-kept, cancel-det-above, CancelSays, cancel-says}
+pub use Rattle.plane.proofs.Divides.{size-above, times-above, left-divides, right-divides, undone, undone-left, divisor-divides, divisor-divides-given}
 -- machine words, and ranges
-pub use Rattle.plane.proofs.MachineNumbers.{read, determinant-asks, determinant-held, above, below}
+pub use Rattle.plane.proofs.MachineNumbers.{read, products-half, determinant-asks, determinant-held, above, below}
 pub use Rattle.plane.proofs.Ranges.{within-products, pseudoinverse-within, multiply-within, image-within, cancel-within, gcd4-within}
 -- the definitions
 pub use Rattle.plane.specs.Plane.{Closed, Inside, Interval, Pair, Point, SamePoint, det, left, right}
 unfoldable pub use Rattle.plane.specs.Plane.{apply, cancelOf, determinantOf, imageOf, multiplyOf, pseudoinverseOf}
 pub use Rattle.plane.specs.Scale.{DetAbove, SameEnds, entries}
 pub use Rattle.plane.specs.Dot.{dot}
+pub use Rattle.plane.specs.Fits.{Products, FactorsFit}
 pub use Rattle.plane.specs.Below.{infinityToMinus1, BelowMinus1}
 unfoldable pub use Rattle.plane.specs.Scale.{scaleOf, scalePair}

@@ -1,10 +1,14 @@
 -- What the function proofs say of 64-bit words: a word holds the number that was stored in it, if that fits.
-use Rattle.whole.proofs.Laws.{_≡_, sym, ap, _∙_, Bool, true, false, not, [], _∷_, ℕ, _+_, _*_, _^_, T, ltb, ℤ, pos, _-ℤ_, _*ℤ_, leZ, ltZ, Near, back, near-back, ok-back, Stands, le-true, le-false, true-lt, false-lt, held, Fits}
+use Rattle.whole.proofs.Laws.{_≡_, sym, ap, _∙_, Bool, true, false, not, List, [], _∷_, ℕ, _+_, _*_, _^_, arith, T, ltb, ltb→lt, lt→ltb, ℤ, pos, _-ℤ_, _*ℤ_, leZ, ltZ, Near, back, near-back, ok-back, Stands, le-true, le-false, true-lt, false-lt, held, Fits}
 use Rattle.plane.specs.Fits.{Products}
 use Rattle.plane.specs.Plane.{determinantOf}
 
 pub read : {b : ℕ} {z : ℤ} → Fits z → Near b z → Stands b (held z) z
 read fits h = record { is = ok-back fits; near = h }
+
+-- a product of two numbers, where a sum of two such products fits
+pub products-half : {m : List ℤ} (p : Products m) → T (ltb (p .a * p .b) (2 ^ 63))
+products-half p = lt→ltb (p .a * p .b) (2 ^ 63) (omega (arith, ltb→lt (p .a * p .b + p .a * p .b) (2 ^ 63) (p .small)))
 
 -- ---- a determinant of two pairs that words hold: what `determinant` asks, and what its answer is then
 

@@ -1,13 +1,15 @@
 // Products of matrices, and images of intervals, on machine words. What they are: crates/plane.
 // A state's entries lie within ±1,000,000,000 and a digit's numbers within ±100, so the entries of their products and the ends of an image lie within ±200,000,000,000.
 ghost use mathlib.Core.Path.{_≡_};
+ghost use mathlib.Core.List.{[], _∷_};
 ghost use lib.IntN.{_+ℤ_, _*ℤ_};
-ghost use Rattle.whole.specs.Range.{Near, Within};
+ghost use Rattle.whole.specs.Range.{Within};
+ghost use Rattle.plane.specs.Fits.{Products, FactorsFit};
 ghost use Rattle.plane.specs.Plane.{multiplyOf, imageOf};
 
 // a·x + b·y: an entry of a product.
 pub fn dot(a: i64, b: i64, x: i64, y: i64) -> i64
-    requires { ⌜ (Near 1000000000 a) × (Near 1000000000 b) × (Near 1000000000 x) × (Near 1000000000 y) ⌝ }
+    requires { ⌜ Products (a ∷ b ∷ x ∷ y ∷ []) ⌝ }
     ensures { λ r. ⌜ r ≡ a *ℤ x +ℤ b *ℤ y ⌝ }
 {
     a * x + b * y
@@ -15,7 +17,7 @@ pub fn dot(a: i64, b: i64, x: i64, y: i64) -> i64
 
 // The product m·n.
 pub fn multiply(m: [i64; 4], n: [i64; 4]) -> [i64; 4]
-    requires { ⌜ (Within 1000000000 m) × (Within 1000000000 n) ⌝ }
+    requires { ⌜ FactorsFit m n ⌝ }
     ensures { λ r. ⌜ r ≡ multiplyOf m n ⌝ }
 {
     let a = m[0];

@@ -4,6 +4,7 @@ use mathlib.Core.Bool.{Bool, true, false}
 use mathlib.Core.List.{List}
 use mathlib.Core.Logic.{_⊎_}
 use Prim.Native.Nat.{ℕ, _<_, _≤_}
+use lib.Dec.{ltb}
 use lib.IntN.{ℤ, pos}
 use lib.Signed.{_<ℤ_}
 use Rattle.whole.specs.Range.{Within}
@@ -35,6 +36,11 @@ absorbed s x = record { matrix = x; held = Nothing }
 abbrev pub HeldDigit : ℕ → Held → Type 0
 HeldDigit n Nothing = Unit {0}
 HeldDigit n (Digit d) = d < n
+
+-- the same as a test
+abbrev pub heldDigit? : ℕ → Held → Bool
+heldDigit? n Nothing = true
+heldDigit? n (Digit d) = ltb d n
 
 pub record StateRules (n : ℕ) (s : State) : Type 0 where
   pub cancelled : gcd4 (s .matrix) ≡ 1

@@ -1,7 +1,7 @@
 // What a session keeps between two calls, and why a run stops: document 01's section "The step", ends 0, 20, 21 and 22, and document 02's end 15.
 // Public: `State`, `Held`, `Stop` and `end_number`. The rest is for our crates above.
 ghost use mathlib.Core.Path.{_≡_};
-ghost use Rattle.states.specs.State.{endNumber, refused?, heldCount, opened as openedOf, loaded as loadedOf, given as givenOf, absorbed as absorbedOf};
+ghost use Rattle.states.specs.State.{endNumber, refused?, heldDigit?, heldCount, opened as openedOf, loaded as loadedOf, given as givenOf, absorbed as absorbedOf};
 
 // A digit that was taken and is not yet absorbed, or none.
 pub enum Held {
@@ -51,6 +51,16 @@ pub fn absorbed(_s: State, matrix: [i64; 4]) -> State
     State {
         matrix,
         held: Held::Nothing,
+    }
+}
+
+// Whether the held digit, if there is one, is one of n.
+pub fn held_below(n: usize, held: Held) -> bool
+    ensures { λ r. ⌜ r ≡ heldDigit? n held ⌝ }
+{
+    match held {
+        Held::Nothing => true,
+        Held::Digit(d) => (d as usize) < n,
     }
 }
 

@@ -1,7 +1,7 @@
 -- The step goes by plans, so it is lawful and steady (crates/runs): what is to be seen is that a plan pays for the digit that it holds. And why it stops.
-use Rattle.whole.proofs.Laws.{_≡_, refl, false, inl, inr, Option, none, some, ℕ, suc, _+_, _≤_, arith, ltb}
+use Rattle.whole.proofs.Laws.{_≡_, refl, Option, none, some, ℕ, suc, _+_, _≤_, arith, ltb}
 use Rattle.runs.proofs.Laws.{Supply, Deed, nothing, cost, Halting, Lawful, Steady, Each, EachStop, took-x, gave, Always, each-test, follow-halts, stop-test, Cheap, planned-lawful, steady-always}
-use Rattle.states.proofs.Laws.{Held, Nothing, Digit, State, Stop, InputUsed, ListFull, NotADigit, NoRoom, RangeLeft, loaded, given, absorbed, StepEnd, heldCount, endNumber, refused?}
+use Rattle.states.proofs.Laws.{Held, Nothing, Digit, State, Stop, InputUsed, ListFull, NotADigit, NoRoom, RangeLeft, loaded, given, absorbed, StepEnd, heldCount, step-end}
 use Rattle.steps.specs.Step.{Setting, chosen, givenMatrix, absorbedMatrix, heldPlan, planBy, plan, plain}
 use Rattle.steps.proofs.Cancelled.{each-cancelled, stop-cancelled}
 
@@ -37,11 +37,7 @@ module _ (R : Stop → Type 0) (used : R InputUsed) (no-digit : R NotADigit) (no
   stops-with y s r = follow-halts R (plan y s) (plan-stops y s (s .held)) r
 
 pub step-stops : (y : Setting) (s : State) (r : Supply) → Halting StepEnd (plain y .step s r)
-step-stops = stops-with StepEnd (record { number = inl refl; not-refused = refl }) (between refl (omega arith) (omega arith)) (between refl (omega arith) (omega arith))
-    (record { number = inr (inl refl); not-refused = refl }) (between refl (omega arith) (omega arith))
-  where
-    between : {e : Stop} → refused? e ≡ false → 20 ≤ endNumber e → endNumber e ≤ 22 → StepEnd e
-    between r h k = record { number = inr (inr (h, k)); not-refused = r }
+step-stops = stops-with StepEnd (step-end InputUsed refl) (step-end NotADigit refl) (step-end NoRoom refl) (step-end ListFull refl) (step-end RangeLeft refl)
 
 pub lawful : (y : Setting) → Lawful (plain y)
 lawful y = planned-lawful (λ s r. plan y s) held InputUsed (λ s r. cheap y s (s .held) refl)

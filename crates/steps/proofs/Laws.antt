@@ -8,6 +8,8 @@ pub use Rattle.steps.proofs.Kept.{chosen-below, chosen-fits, Every, eve
 pub use Rattle.steps.proofs.SamePlan.{same-plan, step-holds}
 -- lines 4 and 5, where they cancel
 pub use Rattle.steps.proofs.Cancelled.{each-cancelled, stop-cancelled}
+-- what a step's product is cancelled by, as a word
+pub use Rattle.steps.proofs.ByDeterminant.{cast-ok, size-held}
 -- what a step lists, and where it does not look at the list; where it finds the list full
 pub use Rattle.steps.proofs.Listing.{Lists, step-lists, any-list}
 pub use Rattle.steps.proofs.FullList.{Why, step-why}

@@ -1,9 +1,9 @@
 -- "A stopped run called again with exactly the bytes it didn't take and the room it didn't fill stops the same way, 0 and 0", with what is left of its list too; and called
 -- with more bytes, more room, more list, or all of them, it goes on as one call with all of it would have: a run may be cut anywhere, whatever the first call ended with.
 -- What holds of every judged run (crates/runs), read in document 01's words.
-use Rattle.whole.proofs.Laws.{_≡_, sym, ap, _∙_, List, [], _++_, ℕ, _-_, _≤_, length, take, drop, length-append, length-drop}
+use Rattle.whole.proofs.Laws.{_≡_, sym, ap, _∙_, List, [], _++_, ℕ, _≤_, length, drop, length-append}
 use Rattle.digits.proofs.Laws.{System}
-use Rattle.runs.proofs.Laws.{Supply, Deed, spend, join, written, Course, judgedRun, behind-unchanged, front-written, written-both, judged-stops-again, judged-cut-anywhere}
+use Rattle.runs.proofs.Laws.{Supply, Deed, spend, join, written, Course, judgedRun, room-left, written-twice, judged-stops-again, judged-cut-anywhere}
 use Rattle.states.proofs.Laws.{State, Stop, Refused}
 use Rattle.steps.proofs.Laws.{setting, plain, oneWord, lawful, steady}
 use lib.Seq.{drop-nil}
@@ -12,24 +12,13 @@ use Rattle.judging.proofs.Laws.{refusalOf}
 use Rattle.unary.specs.Run.{courseOf, leaves, runOf, untaken, unfilled, unlisted, sameStop, followedBy}
 use Rattle.unary.proofs.Runs.{accepted-again, course-in-range}
 
--- ---- of one lent list
-
--- what is left of it
-left : (new out : List ℕ) → length out - length new ≡ length (drop (length new) (written new out))
-left new out = sym (ap length (behind-unchanged new out) ∙ length-drop (length new) out)
-
--- written twice, the second time into what was left and more
-twice : (new next out more : List ℕ) → length new ≤ length out →
-    written (new ++ next) (out ++ more) ≡ take (length new) (written new out) ++ written next (drop (length new) (written new out) ++ more)
-twice new next out more h = rw (front-written new out, behind-unchanged new out) (written-both new next out more h)
-
 -- ---- what is left of one word and the lent lists is again one word and lists
 
 unspent : (d : Deed) (input output divisors : List ℕ) →
     spend d (oneWord input (length output) (length divisors)) ≡
     oneWord (drop (length (d .x)) input) (length (drop (length (d .digits)) (written (d .digits) output))) (length (drop (length (d .divisors)) (written (d .divisors) divisors)))
 unspent d input output divisors =
-    λ i. record { x = drop (length (d .x)) input; y = drop-nil (length (d .y)) i; room = left (d .digits) output i; list = left (d .divisors) divisors i }
+    λ i. record { x = drop (length (d .x)) input; y = drop-nil (length (d .y)) i; room = room-left (d .digits) output i; list = room-left (d .divisors) divisors i }
 
 joined : (u v out more list rest : List ℕ) →
     join (oneWord u (length out) (length list)) (oneWord v (length more) (length rest)) ≡ oneWord (u ++ v) (length (out ++ more)) (length (list ++ rest))
@@ -47,8 +36,8 @@ both q p out more list rest h k =
         listed = record { 0 = length-append (q .did .divisors) (p .did .divisors) i };
         state = p .state;
       };
-      output = twice (q .did .digits) (p .did .digits) out more h i;
-      divisors = twice (q .did .divisors) (p .did .divisors) list rest k i;
+      output = written-twice (q .did .digits) (p .did .digits) out more h i;
+      divisors = written-twice (q .did .divisors) (p .did .divisors) list rest k i;
     }
 
 module _ (a b : System) (s : State) where

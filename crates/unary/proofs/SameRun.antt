@@ -6,12 +6,12 @@ use Rattle.admission.proofs.Laws.{refusalNumber, admitted-few, same-judgement}
 use Rattle.runs.proofs.Laws.{Plan, follow, Course, same-runs, either, accepted-run, refused-run}
 use Rattle.states.proofs.Laws.{State, Stop, Refused, HeldDigit}
 use Rattle.steps.proofs.Laws.{setting, plain, oneWord, lawful, same-plan, step-holds}
-use Rattle.judging.proofs.Laws.{state?, refusalOf, accepted}
+use Rattle.judging.proofs.Laws.{state?, refusalBy, refusalOf, accepted}
 use Rattle.unary.specs.Run.{courseOf, leaves, runOf}
 
 module _ (a a′ b b′ : System) (f : SameDigits a a′) (g : SameDigits b b′) (s : State) where
   pub same-refusal : refusalOf (setting a b) s ≡ refusalOf (setting a′ b′) s
-  unfolding refusalOf
+  unfolding refusalOf refusalBy
   same-refusal =
       let p = same-judgement a a′ f in
       let q = same-judgement b b′ g in

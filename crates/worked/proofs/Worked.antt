@@ -8,7 +8,7 @@ use Rattle.expanding.proofs.Laws.{formOf, expands?}
 use Rattle.admission.proofs.Laws.{rowVerdict, rowsVerdict, admissionOf}
 use Rattle.runs.proofs.Laws.{follow, runBy, run, judgedRun}
 use Rattle.fitting.proofs.Laws.{fittingOf}
-use Rattle.judging.proofs.Laws.{state?, refusalOf}
+use Rattle.judging.proofs.Laws.{state?, refusalBy, refusalOf}
 use Rattle.unary.proofs.Laws.{courseOf, runOf}
 use Rattle.opening.proofs.Laws.{openOf}
 use Rattle.sections.specs.Section.{presence, numberOf}
@@ -35,7 +35,7 @@ passed (d ∷ ds) e c k =
 
 computed : allPass? table ≡ true
 unfolding gcdBy gcd gcd4 apply determinantOf pseudoinverseOf multiplyOf imageOf cancelOf closed? same? included? first within? rowVerdict rowsVerdict
-    formOf expands? admissionOf rowsIn rowsB stored state? openOf unlessRefused transformationBy intervalBy fittingOf follow runBy run refusalOf judgedRun courseOf runOf
+    formOf expands? admissionOf rowsIn rowsB stored state? openOf unlessRefused transformationBy intervalBy fittingOf follow runBy run refusalOf refusalBy judgedRun courseOf runOf
     presence numberOf signed numbersIn readingOf readOf digitsBy decimal signedText heldText stateLine countsLine digitsLine answerText refusedText printed
 computed = refl
 

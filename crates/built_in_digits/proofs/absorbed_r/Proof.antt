@@ -1,6 +1,7 @@
 -- `built_in_digits::absorbed_r` meets its contract, digit by digit: the constants are its transformations.
 use Rattle.whole.proofs.Laws.{needs, _≡_, refl, _∙_, arith, ℕ, List, [], _∷_, ℤ, pos}
 use Rattle.plane.proofs.Laws.{multiplyOf}
+use Rattle.products.proofs.Laws.{factors-fit}
 use Rattle.digits.proofs.Laws.{transformation, tableOf, rowsR, minus, transformationBy, fourBy}
 use Rattle.built_in_digits.proofs.OneDigit.{one-digit}
 use Rattle.built_in_digits.proofs.absorbed_r.Statement.{statement}
@@ -32,4 +33,5 @@ returns-4 c =
 
 pub absorbed-r-spec : {M : Type 1} → statement M
 absorbed-r-spec = tie.close (tie.spec
-    (λ c κs. search needs) returns (λ c κs. search needs) returns-2 (λ c κs. search needs) returns-3 (λ c κs. search needs) returns-4)
+    (λ c κs. factors-fit {t = 1} (c .before .pre .0) (search needs) tt) returns (λ c κs. factors-fit {t = 1} (c .before .before .pre .0) (search needs) tt) returns-2
+    (λ c κs. factors-fit {t = 1} (c .before .before .before .pre .0) (search needs) tt) returns-3 (λ c κs. factors-fit {t = 1} (c .before .before .before .pre .0) (search needs) tt) returns-4)

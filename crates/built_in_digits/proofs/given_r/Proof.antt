@@ -1,6 +1,7 @@
 -- `built_in_digits::given_r` meets its contract, digit by digit: the constants are the pseudoinverses of its transformations.
 use Rattle.whole.proofs.Laws.{needs, _≡_, refl, _∙_, arith, ℕ, List, [], _∷_, ℤ, pos}
 use Rattle.plane.proofs.Laws.{multiplyOf, pseudoinverseOf}
+use Rattle.products.proofs.Laws.{factors-fit}
 use Rattle.digits.proofs.Laws.{transformation, tableOf, rowsR, minus, transformationBy, fourBy}
 use Rattle.built_in_digits.proofs.OneDigit.{one-digit}
 use Rattle.built_in_digits.proofs.given_r.Statement.{statement}
@@ -32,4 +33,5 @@ returns-4 c =
 
 pub given-r-spec : {M : Type 1} → statement M
 given-r-spec = tie.close (tie.spec
-    (λ c κs. search needs) returns (λ c κs. search needs) returns-2 (λ c κs. search needs) returns-3 (λ c κs. search needs) returns-4)
+    (λ c κs. factors-fit {s = 1} (search needs) (c .before .pre .0) tt) returns (λ c κs. factors-fit {s = 1} (search needs) (c .before .before .pre .0) tt) returns-2
+    (λ c κs. factors-fit {s = 1} (search needs) (c .before .before .before .pre .0) tt) returns-3 (λ c κs. factors-fit {s = 1} (search needs) (c .before .before .before .pre .0) tt) returns-4)

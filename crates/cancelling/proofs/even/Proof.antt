@@ -1,6 +1,6 @@
 -- `cancelling::even` meets its contract: of each entry the test says whether 2 divides it.
 use Rattle.whole.proofs.Laws.{needs, both-true, true-both, at}
-use Rattle.cancelling.proofs.Halves.{rem-asks, is-even}
+use Rattle.cancelling.proofs.EvenNumbers.{rem-asks, is-even}
 use Rattle.cancelling.proofs.even.Statement.{statement}
 use Rattle.cancelling.proofs.even.Tie as tie
 

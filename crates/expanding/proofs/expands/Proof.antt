@@ -1,6 +1,6 @@
 -- `expanding::expands` meets its contract: what `dot` ensures of the ends of W and of their images under the form, and `grows` of the three numbers.
-use Rattle.whole.proofs.Laws.{needs, _≡_, _∙_, ap, sym, subst, List, ℤ, _+ℤ_, _*ℤ_, Near, Within, near-le, within-le, near-mul, near-add, held, Fits, Stands}
-use Rattle.plane.proofs.Laws.{left, right, dot, imageOf, image-within}
+use Rattle.whole.proofs.Laws.{needs, _≡_, _∙_, ap, sym, subst, List, [], _∷_, ℤ, _+ℤ_, _*ℤ_, Near, Within, within-le, near-mul, near-add, held, Fits, Stands, stored}
+use Rattle.plane.proofs.Laws.{Products, left, right, dot, imageOf, image-within}
 use Rattle.products.proofs.Laws.{dot-asks, dot-held}
 use Rattle.expanding.specs.Expanding.{formOf, grows?, expands?}
 use Rattle.expanding.proofs.Sizes.{form-within}
@@ -9,11 +9,11 @@ use Rattle.expanding.proofs.expands.Tie as tie
 
 -- x·y of an end and an image, as words hold them
 module _ {x0 x1 y0 y1 : ℤ} (h0 : Near 100 x0) (h1 : Near 100 x1) (k0 : Near 8000000 y0) (k1 : Near 8000000 y1) where
-  asked : (Near 1000000000 (held x0)) × (Near 1000000000 (held x1)) × (Near 1000000000 (held y0)) × (Near 1000000000 (held y1))
-  asked = dot-asks (near-le h0 tt) (near-le h1 tt) (near-le k0 tt) (near-le k1 tt)
+  asked : Products (held x0 ∷ held x1 ∷ held y0 ∷ held y1 ∷ [])
+  asked = dot-asks (stored h0 tt) (stored h1 tt) (stored k0 tt) (stored k1 tt) tt
 
   number : {r : ℤ} → Fits r → r ≡ held x0 *ℤ held y0 +ℤ held x1 *ℤ held y1 → Stands 1600000000 (held r) (x0 *ℤ y0 +ℤ x1 *ℤ y1)
-  number fits e = record { is = dot-held (near-le h0 tt) (near-le h1 tt) (near-le k0 tt) (near-le k1 tt) fits e; near = near-add (near-mul h0 k0) (near-mul h1 k1) }
+  number fits e = record { is = dot-held (stored h0 tt) (stored h1 tt) (stored k0 tt) (stored k1 tt) fits e; near = near-add (near-mul h0 k0) (near-mul h1 k1) }
 
 sized : {u z : ℤ} → Stands 1600000000 u z → Near 1600000000 u
 sized s = subst (Near 1600000000) (sym (s .is)) (s .near)

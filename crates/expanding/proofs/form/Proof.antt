@@ -1,6 +1,7 @@
 -- `expanding::form` meets its contract: the entries of the product of F and F with its rows for columns, and det F, lie within 20,000, and are read back as they are.
-use Rattle.whole.proofs.Laws.{needs, _≡_, _∙_, ap, List, [], _∷_, ℤ, at, Near, Within, within-le, back, near-back, ok-back, held, Stands, sub-ok, sub-stands}
+use Rattle.whole.proofs.Laws.{needs, _≡_, _∙_, ap, List, [], _∷_, ℤ, at, Near, Within, back, near-back, ok-back, held, Stands, sub-ok, sub-stands}
 use Rattle.plane.proofs.Laws.{determinantOf, multiplyOf, multiply-within, within-products, four-equal}
+use Rattle.products.proofs.Laws.{factors-fit}
 use Rattle.expanding.specs.Expanding.{formOf}
 use Rattle.expanding.proofs.Sizes.{determinant-near}
 use Rattle.expanding.proofs.form.Statement.{statement}
@@ -37,8 +38,8 @@ module _ (c : tie.After-multiply) where
 
 multiply-requires : tie.Need-multiply-requires
 multiply-requires c κs =
-    let w = within-le {b = 1000000000} (c .before .before .before .before .before .pre) tt in
-    (w, record { n0 = near-back (w .n0) tt; n1 = near-back (w .n2) tt; n2 = near-back (w .n1) tt; n3 = near-back (w .n3) tt })
+    let w = c .before .before .before .before .before .pre in
+    factors-fit w (record { n0 = near-back (w .n0) tt; n1 = near-back (w .n2) tt; n2 = near-back (w .n1) tt; n3 = near-back (w .n3) tt }) tt
 
 returns : tie.Need-returns
 unfolding formOf multiplyOf

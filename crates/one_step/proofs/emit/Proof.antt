@@ -2,9 +2,9 @@
 use Rattle.whole.proofs.Laws.{_≡_, sym, ap, subst, _∙_, false≢true, now, List, Option, ℕ, _-_}
 use Rattle.plane.proofs.Laws.{imageOf}
 use Rattle.digits.proofs.Laws.{lent, tableOf, rowsR, interval}
-use Rattle.fitting.proofs.Laws.{Fitting, fits, fitting, fittingOf, same-fitting}
+use Rattle.fitting.proofs.Laws.{Fitting, fits, fitting, fittingOf, same-fitting, fits-back}
 use Rattle.steps.proofs.Laws.{Move, Setting, setting, oneWord, chosen, heldPlan, emitPlan, Follows}
-use Rattle.one_step.proofs.Fit.{fits-back, count-free, works-where}
+use Rattle.one_step.proofs.Fit.{count-free, works-where}
 use Rattle.one_step.proofs.emit.Statement.{statement}
 use Rattle.one_step.proofs.emit.Tie as tie
 

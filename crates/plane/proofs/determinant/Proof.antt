@@ -1,27 +1,23 @@
 -- `plane::determinant` meets its contract: each product lies within a·b, and their difference within 2·a·b, which fits.
-use Rattle.whole.proofs.Laws.{needs, List, _+_, _*_, _^_, arith, T, ltb, ltb→lt, lt→ltb, ℤ, mul-ok, mul-stands, sub-ok, sub-stands}
-use Rattle.plane.specs.Fits.{Products}
+use Rattle.whole.proofs.Laws.{needs, mul-ok, mul-stands, sub-ok, sub-stands}
 use Rattle.plane.specs.Plane.{determinantOf}
-use Rattle.plane.proofs.MachineNumbers.{read}
+use Rattle.plane.proofs.MachineNumbers.{read, products-half}
 use Rattle.plane.proofs.determinant.Statement.{statement}
 use Rattle.plane.proofs.determinant.Tie as tie
 
-half : {m : List ℤ} (p : Products m) → T (ltb (p .a * p .b) (2 ^ 63))
-half p = lt→ltb (p .a * p .b) (2 ^ 63) (omega (arith, ltb→lt (p .a * p .b + p .a * p .b) (2 ^ 63) (p .small)))
-
 mul-result : tie.Need-mul-result
-mul-result c = let p = c .before .before .pre in mul-ok (read (c .before .result .given) (p .n0)) (read (c .result2 .given) (p .n3)) (half p)
+mul-result c = let p = c .before .before .pre in mul-ok (read (c .before .result .given) (p .n0)) (read (c .result2 .given) (p .n3)) (products-half p)
 
 mul-result-2 : tie.Need-mul-result-2
-mul-result-2 c = let p = c .before .before .before .before .pre in mul-ok (read (c .before .result3 .given) (p .n1)) (read (c .result4 .given) (p .n2)) (half p)
+mul-result-2 c = let p = c .before .before .before .before .pre in mul-ok (read (c .before .result3 .given) (p .n1)) (read (c .result4 .given) (p .n2)) (products-half p)
 
 sub-result : tie.Need-sub-result
 sub-result c =
     let s = c .before .before in
     let p = s .before .before .pre in
     sub-ok
-    (mul-stands (read (s .before .result .given) (p .n0)) (read (s .result2 .given) (p .n3)) (half p))
-    (mul-stands (read (c .before .result3 .given) (p .n1)) (read (c .result4 .given) (p .n2)) (half p))
+    (mul-stands (read (s .before .result .given) (p .n0)) (read (s .result2 .given) (p .n3)) (products-half p))
+    (mul-stands (read (c .before .result3 .given) (p .n1)) (read (c .result4 .given) (p .n2)) (products-half p))
     (p .small)
 
 returns : tie.Need-returns
@@ -30,8 +26,8 @@ returns c =
     let s = c .before .before in
     let p = s .before .before .pre in
     sub-stands
-    (mul-stands (read (s .before .result .given) (p .n0)) (read (s .result2 .given) (p .n3)) (half p))
-    (mul-stands (read (c .before .result3 .given) (p .n1)) (read (c .result4 .given) (p .n2)) (half p))
+    (mul-stands (read (s .before .result .given) (p .n0)) (read (s .result2 .given) (p .n3)) (products-half p))
+    (mul-stands (read (c .before .result3 .given) (p .n1)) (read (c .result4 .given) (p .n2)) (products-half p))
     (p .small) .is
 
 pub determinant-spec : {M : Type 1} → statement M

@@ -1,6 +1,7 @@
 -- `products::image` meets its contract: the product's columns are the images of the ends, and written as rows they are X·W.
 use Rattle.whole.proofs.Laws.{needs, _≡_, _∙_, ap, List, [], _∷_, ℤ, at, within-le, back, near-back, ok-back}
 use Rattle.plane.proofs.Laws.{multiplyOf, apply, imageOf, four-equal}
+use Rattle.products.proofs.Words.{factors-fit}
 use Rattle.products.proofs.image.Statement.{statement}
 use Rattle.products.proofs.image.Tie as tie
 
@@ -8,7 +9,7 @@ multiply-requires : tie.Need-multiply-requires
 multiply-requires c κs =
     let p = c .before .before .before .before .pre in
     let w = within-le {b = 1000000000} (p .1) tt in
-    (p .0, record { n0 = near-back (w .n0) tt; n1 = near-back (w .n2) tt; n2 = near-back (w .n1) tt; n3 = near-back (w .n3) tt })
+    factors-fit (p .0) (record { n0 = near-back (w .n0) tt; n1 = near-back (w .n2) tt; n2 = near-back (w .n1) tt; n3 = near-back (w .n3) tt }) tt
 
 returns : tie.Need-returns
 unfolding multiplyOf imageOf apply
