@@ -108,7 +108,7 @@ fn with_systems(chance: &mut Chance, input: System, output: System, word: Word) 
     layout(&Job { input, output, matrix, word })
 }
 
-fn any_system(chance: &mut Chance) -> Vec<Row> {
+pub fn any_system(chance: &mut Chance) -> Vec<Row> {
     chance.pick::<System>(&[built_in, changed, cover, decorated, power_of_r])(chance)
 }
 

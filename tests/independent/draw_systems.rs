@@ -224,7 +224,12 @@ pub fn unimodular(chance: &mut Chance, most: usize) -> Matrix {
 
 /// A word that names a fraction: each digit's interval holds the number that is named from it on.
 pub fn word_of_fraction(chance: &mut Chance, rows: &[Row], length: usize) -> Vec<u8> {
-    let mut z = point(chance, 30);
+    let z = point(chance, 30);
+    word_of(chance, rows, z, length)
+}
+
+/// A word that names that fraction.
+pub fn word_of(chance: &mut Chance, rows: &[Row], mut z: Point, length: usize) -> Vec<u8> {
     let mut word = Vec::new();
     while word.len() < length {
         let digits: Vec<usize> = (0..rows.len()).filter(|&a| in_closed(w(&rows[a]), z)).collect();

@@ -41,9 +41,43 @@ pub enum Fault {
     DivisorOfTwo,
     CancelsTwoAlone,
     FourDigitsAreR,
+    PairZeroImage,
+    PairThreeImages,
+    PairEndsSwapped,
+    PairAboveZeroOnly,
+    PairSignsApart,
+    PairOpenInterval,
+    PairLastDigit,
+    PairRoomFirst,
+    PairRangeBeforeRoom,
+    PairWritesFirst,
+    PairAbsorbsEarly,
+    PairTurnKept,
+    PairYFirst,
+    PairYAsX,
+    PairHeldIsLost,
+    PairLoadsYFirst,
+    PairGoesOnWithX,
+    PairNoDigitTaken,
+    PairOutputsDigits,
+    PairRangeOneLess,
+    PairRangeFirst,
+    PairRowsCancelled,
+    PairNumeratorAlone,
+    PairPositiveSign,
+    PairZeroState,
+    PairAnyTerms,
+    PairJudgedByRows,
+    PairHeldLowByte,
+    PairAnyTurn,
+    PairStateFirst,
+    PairOutputFirst,
+    PairCountsLowByte,
+    PairUnusedJudged,
+    PairClearsOutput,
 }
 
-/// Each fault with its name on the command line and what goes wrong.
+/// Each fault with its name on the command line and what goes wrong: those that the comparison of job files has to find.
 pub const FAULTS: [(Fault, &str, &str); 37] = [
     (Fault::BothEnds, "both-ends", "inclusion is judged by both ends alone"),
     (Fault::EqualShutOut, "equal-shut-out", "an interval is not included in itself"),
@@ -84,17 +118,54 @@ pub const FAULTS: [(Fault, &str, &str); 37] = [
     (Fault::FourDigitsAreR, "four-digits-are-r", "the intervals of R are searched in every output system of four digits"),
 ];
 
-/// One more than the place in the table of the fault that is planted; 0 for none.
+/// The faults of runs with two inputs (T-14), which the comparison of these has to find.
+pub const PAIR_FAULTS: [(Fault, &str, &str); 34] = [
+    (Fault::PairZeroImage, "pair-zero-image", "an image (0, 0) is let through"),
+    (Fault::PairThreeImages, "pair-three-images", "the image of the two right ends is not asked"),
+    (Fault::PairEndsSwapped, "pair-ends-swapped", "the interval of x's digit stands for y's, and the other way round"),
+    (Fault::PairAboveZeroOnly, "pair-above-zero-only", "coefficients that are all ≤ 0 are not let through"),
+    (Fault::PairSignsApart, "pair-signs-apart", "each image may have a sign of its own"),
+    (Fault::PairOpenInterval, "pair-open-interval", "no coefficient may be 0"),
+    (Fault::PairLastDigit, "pair-last-digit", "the last digit that may be given out is"),
+    (Fault::PairRoomFirst, "pair-room-first", "a full output stops a run even where no digit may be given out"),
+    (Fault::PairRangeBeforeRoom, "pair-range-before-room", "22 is given where there is no room either"),
+    (Fault::PairWritesFirst, "pair-writes-first", "a digit is written though the state leaves the range"),
+    (Fault::PairAbsorbsEarly, "pair-absorbs-early", "while both words have input left, a digit is absorbed though one may be given out"),
+    (Fault::PairTurnKept, "pair-turn-kept", "the turn stays after absorbing"),
+    (Fault::PairYFirst, "pair-y-first", "a run opens with the turn of y"),
+    (Fault::PairYAsX, "pair-y-as-x", "y's digit is absorbed as if it were x's"),
+    (Fault::PairHeldIsLost, "pair-held-is-lost", "the held digit is lost when absorbing it leaves the range"),
+    (Fault::PairLoadsYFirst, "pair-loads-y-first", "y is loaded before x"),
+    (Fault::PairGoesOnWithX, "pair-goes-on-with-x", "where y has no input left and x has, x is absorbed"),
+    (Fault::PairNoDigitTaken, "pair-no-digit-taken", "a byte of y that is no digit is taken"),
+    (Fault::PairOutputsDigits, "pair-outputs-digits", "a byte is no digit either if the output system hasn't got it"),
+    (Fault::PairRangeOneLess, "pair-range-one-less", "an entry of 1,000,000,000 is out of range"),
+    (Fault::PairRangeFirst, "pair-range-first", "the range is tested before cancelling"),
+    (Fault::PairRowsCancelled, "pair-rows-cancelled", "numerator and denominator are cancelled each by itself"),
+    (Fault::PairNumeratorAlone, "pair-numerator-alone", "all is divided by the numerator's greatest common divisor"),
+    (Fault::PairPositiveSign, "pair-positive-sign", "cancelling makes the first sign positive"),
+    (Fault::PairZeroState, "pair-zero-state", "a state that is all 0 is let through"),
+    (Fault::PairAnyTerms, "pair-any-terms", "a state need not be cancelled"),
+    (Fault::PairJudgedByRows, "pair-judged-by-rows", "a state is not cancelled if its numerator or its denominator is not"),
+    (Fault::PairHeldLowByte, "pair-held-low-byte", "of a held number the low byte is judged"),
+    (Fault::PairAnyTurn, "pair-any-turn", "the turn is not judged"),
+    (Fault::PairStateFirst, "pair-state-first", "the state is judged before the systems"),
+    (Fault::PairOutputFirst, "pair-output-first", "the output system is judged before the input system"),
+    (Fault::PairCountsLowByte, "pair-counts-low-byte", "of a system's count the low byte is judged"),
+    (Fault::PairUnusedJudged, "pair-unused-judged", "the numbers of digits that a system hasn't got are judged"),
+    (Fault::PairClearsOutput, "pair-clears-output", "the bytes behind the digits written become 0"),
+];
+
+/// One more than the number of the fault that is planted; 0 for none.
 static PLANTED: AtomicUsize = AtomicUsize::new(0);
 
 pub fn planted(fault: Fault) -> bool {
-    let place = PLANTED.load(Ordering::Relaxed);
-    place > 0 && FAULTS[place - 1].0 == fault
+    PLANTED.load(Ordering::Relaxed) == fault as usize + 1
 }
 
 /// Plants the fault of that name; false if there is none.
 pub fn plant(name: &str) -> bool {
-    let place = FAULTS.iter().position(|fault| fault.1 == name);
-    PLANTED.store(place.map_or(0, |p| p + 1), Ordering::Relaxed);
-    place.is_some()
+    let found = FAULTS.iter().chain(&PAIR_FAULTS).find(|fault| fault.1 == name);
+    PLANTED.store(found.map_or(0, |fault| fault.0 as usize + 1), Ordering::Relaxed);
+    found.is_some()
 }

@@ -196,6 +196,6 @@ pub fn printed_list(file: &[u8], places: usize) -> String {
 }
 
 /// Parted by one blank.
-fn parted<T: ToString>(fields: &[T]) -> String {
+pub fn parted<T: ToString>(fields: &[T]) -> String {
     fields.iter().map(T::to_string).collect::<Vec<String>>().join(" ")
 }

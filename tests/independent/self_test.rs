@@ -1,11 +1,14 @@
 //! This implementation held against what document 01 says itself: its examples (P1 to P12 and the other runs), and its own test of inclusion; and
-//! against what document 02 says of systems that expand (T-04) and of system B (T-05). What it says of divisors (T-02) is in list_test.rs.
+//! against what document 02 says of systems that expand (T-04) and of system B (T-05). What it says of divisors (T-02) is in list_test.rs, and of runs
+//! with two inputs (T-14) in pair_test.rs and pair_laws.rs.
 
 use crate::draw_full::room_and_range;
 use crate::draw_jobs::{documents_job, layout};
 use crate::draw_stretching::hundred_of;
 use crate::expanding::{expands, growth, rate};
 use crate::list_test::lists;
+use crate::pair_laws::pair_laws;
+use crate::pair_test::pairs;
 use crate::plane::{cancel, covered, det, determinant, in_closed, inside, included, send, Interval, Matrix, Point};
 use crate::reading::{judge_system, read, Job};
 use crate::running::{printed, run};
@@ -21,6 +24,8 @@ pub fn all() {
     long_runs(&mut tests);
     full_rooms(&mut tests);
     lists(&mut tests);
+    pairs(&mut tests);
+    pair_laws(&mut tests);
     expanding_systems(&mut tests);
     order_of_18(&mut tests);
     symmetry_of_b(&mut tests);
