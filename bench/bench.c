@@ -1,13 +1,9 @@
 /* Times the proved library against plain C, to the letter of document 01 (bench/plain.c) and doing the same as the library (bench/same.c): three sides, compiled by one compiler
    into one program, by turns in one run. The best of many rounds counts on each side. Behind its last round a case's answers are compared: the counts, the digits, the divisors
    and how often a session was opened again. bench/run builds, runs and keeps the table. */
-#include "plain.h"
-#include "sledhillock.h"
+#include "bench.h"
 
-int printf(const char *format, ...);
 int atoi(const char *text);
-void *memcpy(void *to, const void *from, size_t n);
-int memcmp(const void *a, const void *b, size_t n);
 struct timespec {
     long seconds, nanoseconds;
 };
@@ -21,7 +17,7 @@ static u32 proved_run(usize ins, const i16 *in_columns, usize n, usize outs, con
     return sled_run(ins, in_columns, n, outs, out_columns, m, (int64_t *)state, s, input, length, output, room, (uint64_t *)divisors, places, counts, c);
 }
 
-static double now(void) {
+double now(void) {
     struct timespec t;
     clock_gettime(2, &t); /* the processor time of this program, so that others on the machine count for less */
     return (double)t.seconds + 1e-9 * (double)t.nanoseconds;
@@ -29,7 +25,7 @@ static double now(void) {
 
 static u64 seed = 88172645463325252u;
 
-static u32 any(u32 below) {
+u32 any(u32 below) {
     seed ^= seed << 13;
     seed ^= seed >> 7;
     seed ^= seed << 17;
@@ -38,12 +34,7 @@ static u32 any(u32 below) {
 
 /* ---- systems */
 
-struct system {
-    usize digits;
-    i16 columns[SLED_COLUMNS];
-};
-
-static struct system R = {.digits = SLED_R_DIGITS}, B = {.digits = SLED_B_DIGITS}, D = {.digits = SLED_D_DIGITS};
+struct system R = {.digits = SLED_R_DIGITS}, B = {.digits = SLED_B_DIGITS}, D = {.digits = SLED_D_DIGITS};
 
 static void leaf(struct system *s, int digit, const i16 *f, int half) {
     /* F maps (0, infinity), or (infinity, 0), onto the digit's interval */
@@ -78,10 +69,8 @@ static struct system random_16(void) {
 
 /* ---- cases */
 
-enum { LETTER, SAME, PROVED, SIDES };
-
 /* a step that lists a divisor writes a digit or absorbs one that was taken: so a list of LISTED places is never full */
-enum { LONG = 20000, ROOM = 64 * LONG, LISTED = LONG + ROOM };
+enum { ROOM = 64 * LONG, LISTED = LONG + ROOM };
 static u8 word[LONG], output[SIDES][ROOM];
 static u64 divisors[SIDES][LISTED];
 
@@ -119,16 +108,24 @@ static void round_of(run_call *run, const struct job *j, u8 *out, u64 *list, usi
 
 static int wrong;
 
+void differ(const char *name) {
+    printf("%s: the sides answer differently\n", name);
+    wrong = 1;
+}
+
 /* the cases where the state left its range, and how often in a round */
 static struct reopening {
     const char *name;
     usize times;
-} reopened[20];
+} reopened[30];
 static int reopenings;
 
-/* A row of the table: how much a second each side has done, and what the proved one has done for 1 of another. A side that was not timed has time 0, and empty cells. Ratios are
-   rounded down, so that none reaches a bar by rounding. */
-static void report(const char *name, const double *best, double done, const char *unit) {
+void opened_again(const char *name, usize times) {
+    if (times != 0) reopened[reopenings++] = (struct reopening){name, times};
+}
+
+/* Ratios are rounded down, so that none reaches a bar by rounding. */
+void report(const char *name, const double *best, double done, const char *unit) {
     printf("| %s |", name);
     for (int side = 0; side < SIDES; side++) best[side] == 0 ? printf(" |") : printf(" %.1f |", done / best[side]);
     printf(" %s |", unit);
@@ -153,15 +150,12 @@ static void time_run(const char *name, const struct job *j, int rounds) {
             double time = now() - start;
             if (time < best[side]) best[side] = time;
         }
-    if (!agrees(SAME, counts, stops) || !agrees(PROVED, counts, stops)) {
-        printf("%s: the sides answer differently\n", name);
-        wrong = 1;
-    }
+    if (!agrees(SAME, counts, stops) || !agrees(PROVED, counts, stops)) differ(name);
     if (j->length == 1)
         report(name, best, (double)j->calls * 1e-6, "million calls a second");
     else
         report(name, best, (double)counts[0][0] * 1e-6, "million digits taken a second");
-    if (stops[0] != 0) reopened[reopenings++] = (struct reopening){name, stops[0]};
+    opened_again(name, stops[0]);
 }
 
 /* of two sides: plain C admits in one way alone */
@@ -189,8 +183,8 @@ static void random_word(u32 n) {
     for (usize k = 0; k < LONG; k++) word[k] = (u8)any(n);
 }
 
-/* a word of another system for a random number: what a run writes on R's random word */
-static void word_of(const struct system *s) {
+/* what a run writes on R's random word */
+void word_of(const struct system *s, u8 *word) {
     static u8 source[LONG];
     const i64 one[5] = {1, 0, 0, 1, -1};
     i64 state[5];
@@ -219,10 +213,10 @@ int main(int argc, char **argv) {
     time_run("R to R, 2 1 1 2, long word", &(struct job){&R, &R, {2, 1, 1, 2}, LONG, 1}, rounds);
     time_run("R to R, 5 2 3 4, long word", &(struct job){&R, &R, {5, 2, 3, 4}, LONG, 1}, rounds);
     time_run("R to R, one digit a call", &(struct job){&R, &R, {2, 1, 1, 2}, 1, 2000}, rounds);
-    word_of(&B);
+    word_of(&B, word);
     time_run("B to B, 3 1 1 3, long word", &(struct job){&B, &B, {3, 1, 1, 3}, LONG, 1}, rounds);
     time_run("B to B, one digit a call", &(struct job){&B, &B, {3, 1, 1, 3}, 1, 2000}, rounds);
-    word_of(&D);
+    word_of(&D, word);
     time_run("D to B, 3 -1 0 1, long word", &(struct job){&D, &B, {3, -1, 0, 1}, LONG, 1}, rounds);
     time_run("D to B, one digit a call", &(struct job){&D, &B, {3, -1, 0, 1}, 1, 2000}, rounds);
     static struct system random[6];
@@ -232,6 +226,7 @@ int main(int argc, char **argv) {
     time_run("another pair, long word", &(struct job){&random[2], &random[3], {7, 1, 2, 5}, LONG, 1}, rounds);
     time_run("a third pair, long word", &(struct job){&random[4], &random[5], {5, 0, 1, 3}, LONG, 1}, rounds);
     time_run("random 16 to random 16, one digit a call", &(struct job){&random[0], &random[1], {2, 1, 1, 2}, 1, 2000}, rounds);
+    time_two_words(rounds);
     time_admit("admission of R", &R, rounds);
     time_admit("admission of B", &B, rounds);
     time_admit("admission of a random 16", &random[0], rounds);
