@@ -78,6 +78,24 @@ pub fn numbers(n: &[i16]) {
     }
 }
 
+// Each count behind a blank.
+pub fn counts(n: &[usize]) {
+    let mut i = 0;
+    while i < n.len() {
+        number(n[i] as u64);
+        i += 1;
+    }
+}
+
+pub fn signed_numbers(n: &[i64]) {
+    text(b" |");
+    let mut i = 0;
+    while i < n.len() {
+        signed(n[i]);
+        i += 1;
+    }
+}
+
 pub fn bytes(b: &[u8]) {
     text(b" |");
     let mut i = 0;
