@@ -1,7 +1,7 @@
 /* Sledhillock: exact arithmetic on numbers that are written as digits. The C library.
 
-   A number comes in as a word of digits of one system and goes out, changed by x -> (a x + b) / (c x + d), as digits of another. Nothing is rounded, and a digit that
-   was given out is never taken back.
+   A number comes in as a word of digits of one system and goes out, changed by x -> (a x + b) / (c x + d), as digits of another. Two numbers come in as two words, and
+   their sum, difference or product goes out. Nothing is rounded, and a digit that was given out is never taken back.
 
    HOW IT IS USED
 
@@ -12,6 +12,8 @@
         how many digits it wrote and how many numbers it listed. Cut the word, the room and the list as you like: hand what a call did not take and did not fill on to the
         next, with more, and the digits and the list are those of one call. If you do not care what is cancelled, lend a list with one place more than input and output have
         together: it is never full, and you need not look at it.
+
+     For x + y, x - y and x y see TWO WORDS, below.
 
    WHAT IS PROMISED OF EVERY CALL
 
@@ -71,6 +73,38 @@
          A   the product of the matrices of all digits absorbed so far, in their order: of all that were taken, but for the held one
 
      L times (G X) is E times (M A), number for number: so G X is M A times E / L.
+
+   TWO WORDS
+
+     For x + y, x - y or x y have two systems as above. Both words, x and y, are of the input system. Open a session by sled_open_sum, sled_open_difference or
+     sled_open_product, and call sled_run_two with some bytes of each word and some room, as often as you like. It says how many bytes it took of x, how many of y, and how
+     many digits it wrote. Cut either word and the room as you like, as with one word. Nothing is listed.
+
+     A STATE OF TWO WORDS is eleven numbers. The first eight, a b c d e f g h, stand for
+
+         X(x, y)  =  (a x y + b x + c y + d) / (e x y + f x + g y + h)
+
+     so that a session opens with 0 1 1 0 0 0 0 1 for x + y, with 0 1 -1 0 0 0 0 1 for x - y, and with 1 0 0 0 0 0 0 1 for x y. The ninth is the digit of x that was taken
+     and is not yet absorbed, or -1 if there is none; the tenth is that of y, or -1; the eleventh says whose digit is absorbed next, 0 for x and 1 for y. It keeps the
+     rules if the eight have greatest common divisor 1 (so that they are not all 0), each of them lies in -1000000000..1000000000, the ninth and the tenth are each -1 or a
+     digit of the input system, and the eleventh is 0 or 1. The states that the calls write keep them.
+
+     What a run does, again and again, is the first of these that applies:
+
+         1. No digit of x is held: it takes the next byte of x.
+         2. No digit of y is held: it takes the next byte of y.
+         3. A digit is certain: it gives the smallest one that is.
+         4. It absorbs the held digit whose turn it is, x first and then by turns: between two digits of x it absorbs one of y.
+
+     When is a digit certain? What is left of x lies in the interval of the held digit of x, and what is left of y in that of y's. X makes four images of the four pairs of
+     their ends: each is a pair of whole numbers, of x0/x1 and y0/y1 the two sums above with x0 y0, x0 y1, x1 y0, x1 y1 in the places of x y, x, y, 1. A digit may be given
+     out if none of the four images is 0/0 and if, with each image written as p times the left end plus q times the right end of that digit's interval, the eight numbers
+     p and q of all images are all at least 0, or all at most 0. Then X sends all that x and y can still be into that interval, its ends included, where it is not 0/0.
+
+     What the digits mean: over a session of as many calls as you like, always with the same two systems, let any fraction or infinity be the number that is named by the
+     rest of x, from its held digit on, and any by the rest of y. Then the digits written so far, in front of a word for X of the two, name x + y, x - y or x y, wherever
+     that is a number: infinity + infinity, infinity - infinity and 0 times infinity are 0/0, which is none. And if in both words the number that is named from each digit
+     on lies in that digit's closed interval, so does the number that is named from each digit written on, where X of the two rests is not 0/0.
 */
 #ifndef SLEDHILLOCK_H
 #define SLEDHILLOCK_H
@@ -98,12 +132,13 @@ extern "C" {
 
 /* What a call answers. */
 enum sled_number {
-    SLED_OK = 0,                /* admitted, opened or written; of a run: all the input was taken, nothing is held, and no digit more can be given out */
+    SLED_OK = 0,                /* admitted, opened or written; of a run: all the input was taken, nothing is held, and no digit more can be given out; of a run over two
+                                   words: the next digit of one of them is needed, x's before y's, and that word was taken whole */
 
-    /* a run stopped: sled_run says how to go on, if one can */
-    SLED_END_LIST_FULL = 15,    /* the next digit is certain and has room, or the held one is to be absorbed, and the list is full */
+    /* a run stopped: sled_run and sled_run_two say how to go on, if one can */
+    SLED_END_LIST_FULL = 15,    /* of sled_run alone: the next digit is certain and has room, or the held one is to be absorbed, and the list is full */
     SLED_END_NO_ROOM = 20,      /* the next digit is certain, and the output is full */
-    SLED_END_NOT_A_DIGIT = 21,  /* the next byte is no digit of the input system; it was not taken */
+    SLED_END_NOT_A_DIGIT = 21,  /* the next byte, of two words that which is needed next, is no digit of the input system; it was not taken */
     SLED_END_RANGE_LEFT = 22,   /* the next state has an entry outside -1000000000..1000000000; it was not entered */
 
     /* refusals: nothing was done */
@@ -127,8 +162,9 @@ enum sled_number {
     SLED_REFUSED_LENGTH = 40    /* a slice has the wrong length */
 };
 
-/* How many numbers stand in a state, in a matrix, in the row of one digit, in the columns of a system, in the counts of a run and in what sled_read found. */
-enum { SLED_STATE = 5, SLED_MATRIX = 4, SLED_ROW = 8, SLED_COLUMNS = 128, SLED_COUNTS = 3, SLED_FOUND = 4 };
+/* How many numbers stand in a state, in a state of two words, in a matrix, in the row of one digit, in the columns of a system, in the counts of a run and in what sled_read
+   found. */
+enum { SLED_STATE = 5, SLED_TWO_STATE = 11, SLED_MATRIX = 4, SLED_ROW = 8, SLED_COLUMNS = 128, SLED_COUNTS = 3, SLED_FOUND = 4 };
 
 /* How many digits the built-in systems have. */
 enum { SLED_R_DIGITS = 4, SLED_B_DIGITS = 8, SLED_D_DIGITS = 4 };
@@ -207,6 +243,35 @@ uint32_t sled_open(const int64_t *matrix, size_t matrix_length, int64_t *state, 
 uint32_t sled_run(size_t in_digits, const int16_t *in_columns, size_t in_length, size_t out_digits, const int16_t *out_columns, size_t out_length,
                   int64_t *state, size_t state_length, const uint8_t *input, size_t input_length, uint8_t *output, size_t output_length,
                   uint64_t *divisors, size_t divisors_length, size_t *counts, size_t counts_length);
+
+/* Opens a session over two words: for x + y, for x - y, and for x y.
+   state_length has to be SLED_TWO_STATE. Answers 0 and writes all eleven numbers: the eight of the operation, -1 and -1, for nothing is held, and 0, for it is x's turn. Or
+   answers SLED_REFUSED_LENGTH, and writes nothing. */
+uint32_t sled_open_sum(int64_t *state, size_t state_length);
+uint32_t sled_open_difference(int64_t *state, size_t state_length);
+uint32_t sled_open_product(int64_t *state, size_t state_length);
+
+/* Takes bytes of the two words and writes digits to the output until it has to stop, and answers why:
+
+     SLED_OK, SLED_END_..   (but for SLED_END_LIST_FULL, which never comes) counts[0] is how many bytes were taken of x, counts[1] how many of y, and counts[2] how many
+                            digits were written, from the start of the output on; the state is the new one. The bytes of the output behind the written ones are unchanged.
+                            To go on after SLED_OK or SLED_END_NO_ROOM, call again with this state, each word from the first byte that was not taken, and new room. After
+                            SLED_OK one of the words was taken whole: x, if state[8] is -1, and y, if state[9] is -1 and state[8] is not. Hand on more of that one; where
+                            there is no more of it, nothing more can be done, whatever is left of the other. After SLED_END_NOT_A_DIGIT pass over or mend the byte first: it
+                            is x's, if state[8] is -1, and else y's. After SLED_END_RANGE_LEFT the session is over: called again with the bytes that it did not take and
+                            the room that it did not fill, it does nothing and answers the same.
+     SLED_REFUSED_..        of the input system, which both words are in (COUNT, RANGE, MAP, INTERVAL, LOWEST, GAP, EXPAND, as sled_admit), then of the output system, then
+                            SLED_REFUSED_STATE: the three counts are 0, and the state and the output are unchanged.
+     SLED_REFUSED_LENGTH    in_length or out_length is not SLED_COLUMNS, state_length is not SLED_TWO_STATE or counts_length is not SLED_COUNTS: nothing is written, not
+                            even the counts.
+
+   Where both ends apply, it is SLED_END_NO_ROOM before SLED_END_RANGE_LEFT. xs_length, ys_length and output_length may be anything, 0 too. xs and ys are only read, so they
+   may be one and the same slice: x + x.
+
+   A call first judges both systems, so feed long pieces where speed matters. Steps are linear in bytes taken plus digits written. */
+uint32_t sled_run_two(size_t in_digits, const int16_t *in_columns, size_t in_length, size_t out_digits, const int16_t *out_columns, size_t out_length,
+                      int64_t *state, size_t state_length, const uint8_t *xs, size_t xs_length, const uint8_t *ys, size_t ys_length,
+                      uint8_t *output, size_t output_length, size_t *counts, size_t counts_length);
 
 #ifdef __cplusplus
 }

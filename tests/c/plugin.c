@@ -10,25 +10,11 @@
      cuts.c       runs in several calls are one run
      scale.c      what the list is for: the scale of all that a session has done
      jobs.c       job files
+     pairs.c      opening, and runs, over two words; pair_refusals.c has those that are refused
+     pair_sums.c  over two words: runs in several calls are one run; exact fractions; and random runs, held against plain C (plain_pairs.c)
      plugin.c     here: random runs, most of them bad, held against plain C (bench/plain.c); and all parts one after the other */
 #include "plain.h"
 #include "world.h"
-
-/* A system by chance: a good one, or one with a number changed, or with another count; sometimes of a wrong length. */
-static void some_system(int16_t *columns, size_t *digits, size_t *length) {
-    struct system s = ADMITTED[any(SYSTEMS)];
-    junk = any(JUNKS);
-    lend(columns, s);
-    size_t number = 16 * any(8) + any((uint32_t)s.digits);
-    uint32_t change = any(16);
-    if (change < 2) columns[number] = (int16_t)((int)any(5) - 2);
-    if (change == 2) columns[number] = (int16_t)((int)any(65536) - 32768);
-    if (change == 3) s.digits -= any((uint32_t)s.digits);
-    if (change == 4) s.digits = any(20);
-    if (change == 5) s.digits = LARGE[any(LARGE_COUNTS)];
-    *digits = s.digits;
-    *length = any(32) == 0 ? any(LENT + 1) : SLED_COLUMNS;
-}
 
 /* a state by chance: small entries, or some near the bound, and a held digit or none */
 static void some_state(int64_t *state) {
@@ -86,6 +72,7 @@ int main(void) {
     built_in();
     turning();
     opening();
+    opening_two();
     for (junk = NOUGHT; junk < JUNKS; junk++) {
         admission();
         runs();
@@ -94,8 +81,13 @@ int main(void) {
         scales();
         refusals();
         jobs();
+        pairs();
+        pair_cuts();
+        pair_refusals();
+        pair_fractions();
     }
     random_runs(200000);
+    random_pairs(100000);
     printf("%d passed, %d failed\n", passed, failed);
     return failed != 0;
 }

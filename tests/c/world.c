@@ -126,6 +126,21 @@ void lend(int16_t *columns, struct system s) {
     put_columns(columns, s);
 }
 
+void some_system(int16_t *columns, size_t *digits, size_t *length) {
+    struct system s = ADMITTED[any(SYSTEMS)];
+    junk = any(JUNKS);
+    lend(columns, s);
+    size_t number = 16 * any(8) + any((uint32_t)s.digits);
+    uint32_t change = any(16);
+    if (change < 2) columns[number] = (int16_t)((int)any(5) - 2);
+    if (change == 2) columns[number] = (int16_t)((int)any(65536) - 32768);
+    if (change == 3) s.digits -= any((uint32_t)s.digits);
+    if (change == 4) s.digits = any(20);
+    if (change == 5) s.digits = LARGE[any(LARGE_COUNTS)];
+    *digits = s.digits;
+    *length = any(32) == 0 ? any(LENT + 1) : SLED_COLUMNS;
+}
+
 /* ---- a run */
 
 uint32_t run(struct lengths n) {

@@ -41,6 +41,10 @@ struct world {
     uint8_t guard10[GUARD];
     size_t found[8];
     uint8_t guard11[GUARD];
+    int64_t two_state[16];
+    uint8_t guard12[GUARD];
+    uint8_t ys[SPACE];
+    uint8_t guard13[GUARD];
 };
 
 extern struct world now, then;
@@ -92,6 +96,9 @@ extern enum junk { NOUGHT, ANY_NUMBERS, SMALL_NUMBERS, GOOD_DIGITS, IDENTITY_DIG
 
 void stored(int16_t *columns, struct system s); /* the columns that the library has to write: 0 in unused places */
 void lend(int16_t *columns, struct system s);   /* the columns that it is lent: junk in unused places; of more than 16 digits, the first 16 */
+
+/* a system by chance: a good one, or one with a number changed, or with another count; sometimes of a wrong length */
+void some_system(int16_t *columns, size_t *digits, size_t *length);
 
 /* ---- a run over what stands in the world */
 
@@ -151,5 +158,11 @@ void cuts(void);
 void scales(void);
 void refusals(void);
 void jobs(void);
+void opening_two(void);
+void pairs(void);
+void pair_cuts(void);
+void pair_refusals(void);
+void pair_fractions(void);
+void random_pairs(int times);
 
 #endif

@@ -5,6 +5,8 @@
 --   Answers   the range of what admitting, opening and reading answer
 --   Runs      the range of what a run leaves in lent numbers
 --   Calls     the range of what the C functions answer and leave
+--   TwoRuns   the range of what a run over two words leaves in lent numbers
+--   TwoCalls  the range of what the C functions for two words answer and leave
 --   OneAnswer no second answer fits, function by function
 --   NeverFull the program's list never fills, nor does a plug-in's that is long enough
 pub mod Laws
@@ -13,5 +15,7 @@ mod Sections
 mod Answers
 mod Runs
 mod Calls
+mod TwoRuns
+mod TwoCalls
 mod OneAnswer
 mod NeverFull

@@ -18,6 +18,8 @@ use Rattle.open_call.proofs.Laws.{openCall}
 use Rattle.columns_call.proofs.Laws.{columnsCall, rowsCall}
 use Rattle.run_call.proofs.Laws.{AfterRun, runCall}
 use Rattle.read_call.proofs.Laws.{AfterRead, readCall}
+use Rattle.two_states.proofs.Laws.{TwoState}
+use Rattle.two_call.proofs.Laws.{AfterTwo, twoOpened, twoCall}
 use Rattle.plugin.specs.Calls.{admitNumber}
 
 one : {A : Type 0} {value r r′ : A} → r ≡ value → r′ ≡ value → r ≡ r′
@@ -99,3 +101,12 @@ one-sled-run a b input old output divisors counts x y = one
 pub one-sled-read : (file : List ℕ) (in-columns out-columns m : List ℤ) (found : List ℕ) (x y : AfterRead) →
     x ≡ readCall file in-columns out-columns m found → y ≡ readCall file in-columns out-columns m found → x ≡ y
 one-sled-read file in-columns out-columns m found x y = one
+
+-- sled_open_sum, sled_open_difference, sled_open_product
+pub one-sled-open-two : (s : TwoState) (old : List ℤ) (r r′ : ℕ) (new new′ : List ℤ) →
+    wrote r new ≡ twoOpened s old → wrote r′ new′ ≡ twoOpened s old → wrote r new ≡ wrote r′ new′
+one-sled-open-two s old r r′ new new′ = one
+
+pub one-sled-run-two : (a b : StoredSystem) (xs ys : List ℕ) (old : List ℤ) (output counts : List ℕ) (x y : AfterTwo) →
+    x ≡ twoCall a b xs ys old output counts → y ≡ twoCall a b xs ys old output counts → x ≡ y
+one-sled-run-two a b xs ys old output counts x y = one

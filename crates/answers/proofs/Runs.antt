@@ -20,7 +20,7 @@ digit-in-range h = record { from = record { le = tt }; below = up< h }
 none-in-range : (count : ℕ) → HeldInRange count (negsuc 0)
 none-in-range count = record { from = record { le = tt }; below = record { lt = tt } }
 
-held-in-range : (count : ℕ) (h : Held) → HeldDigit count h → HeldInRange count (heldNumber h)
+pub held-in-range : (count : ℕ) (h : Held) → HeldDigit count h → HeldInRange count (heldNumber h)
 held-in-range count Nothing k = none-in-range count
 held-in-range count (Digit d) k = digit-in-range k
 
@@ -41,7 +41,7 @@ end-few (inl e) = omega (arith, e)
 end-few (inr (inl e)) = omega (arith, e)
 end-few (inr (inr h)) = h .1
 
-end-apart : {n : ℕ} → EndNumber n → RefusalNumber n → ⊥
+pub end-apart : {n : ℕ} → EndNumber n → RefusalNumber n → ⊥
 end-apart (inl e) r = omega (arith, e, refusal-bounds r .0)
 end-apart (inr (inl e)) r = refusal-bounds r .2 e
 end-apart (inr (inr h)) r = omega (arith, h .0, refusal-bounds r .1)

@@ -9,5 +9,5 @@ pub use Rattle.binary.proofs.TwoSameRun.{same-refusal, same-course, sam
 -- the definitions
 pub use Rattle.binary.specs.TwoRun.{TwoRan, answerOf, answered, followedBy, leaves, sameStop, twoRan, twoRunSteps, unfilled, untakenX, untakenY}
 unfoldable pub use Rattle.binary.specs.TwoRun.{twoCourse, twoRefusal, twoRun, twoStepsOf}
-pub use Rattle.binary.specs.TwoRanges.{TwoAnswerInRange}
+pub use Rattle.binary.specs.TwoRanges.{TwoAnswerInRange, TwoEnd, TwoStepEnd}
 pub use Rattle.binary.specs.Types.{TwoAnswer}

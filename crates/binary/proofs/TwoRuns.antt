@@ -2,18 +2,18 @@
 -- `in-range`: the bytes taken of each word are at most those that were there, the digits written at most the room; every byte written is a digit of the output system, and behind
 -- them nothing changed; the end is 0, 20, 21, 22 or a refusal's number; the state keeps the rules for a state, unless it was refused. `few-steps`: a run makes at most
 -- 2·(taken of x) + 2·(taken of y) + written + 1 steps, and one more for each digit that was held at the start.
-use Rattle.whole.proofs.Laws.{_≡_, refl, ap, subst, List, _⊎_, inl, inr, ℕ, zero, suc, _+_, _*_, _≤_, _<_, arith, length, drop, List·getD-append}
+use Rattle.whole.proofs.Laws.{_≡_, refl, ap, subst, false, List, _⊎_, inl, inr, ℕ, zero, suc, _+_, _*_, _≤_, _<_, arith, length, drop, List·getD-append}
 use Rattle.digits.proofs.Laws.{System}
 use Rattle.admission.proofs.Laws.{admitted-digits}
 use Rattle.runs.proofs.Laws.{Supply, nothing, spend, Pays, cost, Halting, Course, stopped, run, within, nothing-pays, behind-unchanged, length-written, runs, paid, keeps, last-step, either, accepted-run, refused-run}
-use Rattle.states.proofs.Laws.{Stop, Refused, StepEnd, endNumber}
+use Rattle.states.proofs.Laws.{Stop, Refused, endNumber, refused?}
 use Rattle.steps.proofs.Laws.{Setting, setting, every-at, Below}
 use Rattle.runs.proofs.Laws as every
 use Rattle.judging.proofs.Laws.{RefusalNumber}
 use Rattle.two_states.proofs.Laws.{TwoState, TwoRules, heldTwo}
-use Rattle.two_steps.proofs.Laws.{pairs, twoWords, lawful, step-stops, Kept, step-keeps}
+use Rattle.two_steps.proofs.Laws.{pairs, twoWords, lawful, step-halts, Kept, step-keeps}
 use Rattle.binary.specs.TwoRun.{twoRefusal, twoCourse, leaves, twoRun, twoStepsOf, twoRunSteps}
-use Rattle.binary.specs.TwoRanges.{TwoAnswerInRange}
+use Rattle.binary.specs.TwoRanges.{TwoStepEnd, TwoAnswerInRange}
 use Rattle.binary.proofs.TwoJudging.{two-accepted, two-refusal-number}
 
 -- ---- a run that is not refused keeps the rules for a state, so the state that it hands back is never refused by the next
@@ -27,6 +27,14 @@ run-keeps y s r e =
 pub accepted-again : (y : Setting) (s : TwoState) (r : Supply) → twoRefusal y s ≡ 0 → twoRefusal y (run (pairs y) s r .state) ≡ 0
 accepted-again y s r e = let a = two-accepted y s .0 e in two-accepted y (run (pairs y) s r .state) .1 (a .0, a .1, run-keeps y s r e .state)
 
+-- ---- a step stops with 0, 20, 21 or 22
+
+step-ends : (y : Setting) (s : TwoState) (r : Supply) → Halting TwoStepEnd (pairs y .step s r)
+step-ends = step-halts TwoStepEnd (record { number = inl refl; not-refused = refl }) (between refl (omega arith) (omega arith)) (between refl (omega arith) (omega arith)) (between refl (omega arith) (omega arith))
+  where
+    between : {e : Stop} → refused? e ≡ false → 20 ≤ endNumber e → endNumber e ≤ 22 → TwoStepEnd e
+    between r h k = record { number = inr (h, k); not-refused = r }
+
 -- ---- of any run: refused or not
 
 -- what a run did could be done, its digits are digits, and so on
@@ -34,8 +42,8 @@ pub record CourseInRange (a b : System) (s : TwoState) (xs ys : List ℕ) (room 
   pub pays : Pays (q .did) (twoWords xs ys room)
   pub digits : Below (b .count) (q .did .digits)
   pub state : twoRefusal (setting a b) s ≡ 0 → TwoRules (a .count) (q .state)
-  pub stop : StepEnd (q .stop) ⊎ RefusalNumber (endNumber (q .stop))
-  pub ended : twoRefusal (setting a b) s ≡ 0 → StepEnd (q .stop)
+  pub stop : TwoStepEnd (q .stop) ⊎ RefusalNumber (endNumber (q .stop))
+  pub ended : twoRefusal (setting a b) s ≡ 0 → TwoStepEnd (q .stop)
   pub steps : q .steps ≤ cost (q .did) + heldTwo s
 
 module _ (a b : System) (s : TwoState) (xs ys : List ℕ) where
@@ -43,7 +51,7 @@ module _ (a b : System) (s : TwoState) (xs ys : List ℕ) where
   unfolding twoCourse
   course-in-range room = either (pairs y) Refused (twoRefusal y) s r (CourseInRange a b s xs ys room)
       (λ e. let g = runs (lawful y) s r in
-      let end = subst (Halting StepEnd) (last-step (lawful y) g) (step-stops y (run (pairs y) s r .state) (spend (run (pairs y) s r .did) r)) in record {
+      let end = subst (Halting TwoStepEnd) (last-step (lawful y) g) (step-ends y (run (pairs y) s r .state) (spend (run (pairs y) s r .did) r)) in record {
         pays = paid (lawful y) g;
         digits = run-keeps y s r e .digits;
         state = λ z. run-keeps y s r e .state;

@@ -1,5 +1,5 @@
 // The library for other languages: C functions over numbers and slices. include/sledhillock.h says what each promises, in a C author's words.
-// Crate `numbers` has how a system and a state are written; what the calls do is in `columns_call`, `open_call`, `run_call` and `read_call`. A slice of the wrong length is refused by 40, and nothing is written.
+// Crate `numbers` has how a system and a state are written; what the calls do is in `columns_call`, `open_call`, `run_call`, `read_call` and, for two words, `two_call`. A slice of the wrong length is refused by 40, and nothing is written.
 ghost use mathlib.Core.Path.{_≡_};
 ghost use Rattle.digits.specs.BuiltIn.{stored, rowsR, rowsB, rowsD};
 ghost use Rattle.columns_call.specs.ColumnsCall.{columnsCall, rowsCall};
@@ -7,6 +7,8 @@ ghost use Rattle.run_call.specs.RunCall.{afterRun, runCall};
 ghost use Rattle.read_call.specs.ReadCall.{afterRead, readCall};
 ghost use Rattle.numbers.specs.Numbers.{lentSystem, wrote, handedOut};
 ghost use Rattle.open_call.specs.OpenCall.{openCall};
+ghost use Rattle.two_states.specs.TwoState.{openedSum, openedDifference, openedProduct};
+ghost use Rattle.two_call.specs.TwoCall.{twoOpened, afterTwo, twoCall};
 ghost use Rattle.plugin.specs.Calls.{admitNumber};
 use numbers::WRONG_LENGTH;
 
@@ -111,4 +113,57 @@ pub extern "C" fn sled_read(
         readCall (now (file .entry)) (now («in_columns» .entry)) (now («out_columns» .entry)) (now (matrix .entry)) (now (found .entry)) ⌝ }
 {
     read_call::read(file, in_columns, out_columns, matrix, found)
+}
+
+// Opens a session over two words for their sum, x + y: 0, and the state's eleven numbers are written.
+#[no_mangle]
+pub extern "C" fn sled_open_sum(state: &mut [i64]) -> u32
+    ensures { λ r. ⌜ wrote r (now (state .exit)) ≡ twoOpened openedSum (now (state .entry)) ⌝ }
+{
+    two_call::open_sum(state)
+}
+
+// For their difference, x − y.
+#[no_mangle]
+pub extern "C" fn sled_open_difference(state: &mut [i64]) -> u32
+    ensures { λ r. ⌜ wrote r (now (state .exit)) ≡ twoOpened openedDifference (now (state .entry)) ⌝ }
+{
+    two_call::open_difference(state)
+}
+
+// For their product, x·y.
+#[no_mangle]
+pub extern "C" fn sled_open_product(state: &mut [i64]) -> u32
+    ensures { λ r. ⌜ wrote r (now (state .exit)) ≡ twoOpened openedProduct (now (state .entry)) ⌝ }
+{
+    two_call::open_product(state)
+}
+
+// Runs over two words: takes bytes of each and writes digits to the output until a step stops. Answers why; the state and the three counts, taken of x, taken of y and written, are written back.
+#[no_mangle]
+pub extern "C" fn sled_run_two(
+    in_digits: usize,
+    in_columns: &[i16],
+    out_digits: usize,
+    out_columns: &[i16],
+    state: &mut [i64],
+    xs: &[u8],
+    ys: &[u8],
+    output: &mut [u8],
+    counts: &mut [usize],
+) -> u32
+    ensures { λ r. ⌜ afterTwo r (now (state .exit)) (now (output .exit)) (now (counts .exit)) ≡
+        twoCall (lentSystem «in_digits» (now («in_columns» .entry))) (lentSystem «out_digits» (now («out_columns» .entry))) (now (xs .entry)) (now (ys .entry)) (now (state .entry)) (now (output .entry)) (now (counts .entry)) ⌝ }
+{
+    two_call::run(
+        in_digits,
+        in_columns,
+        out_digits,
+        out_columns,
+        state,
+        xs,
+        ys,
+        output,
+        counts,
+    )
 }

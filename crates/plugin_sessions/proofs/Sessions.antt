@@ -1,46 +1,32 @@
 -- A session by the C functions is a session (`plugin-session`): so every sentence of demand 3 holds of what plug-ins do (`plugin-meaning`). The five numbers that a call leaves are those of
 -- the session's state, and are read back as that state (`session-state-back`): its matrix is four numbers, and a held digit is one of at most 16, so it is a byte.
 -- By induction over the calls. No call of a session is refused, so each writes its state back; and what it answers is what `run` answers.
-use Rattle.whole.proofs.Laws.{_≡_, refl, sym, ap, subst, _∙_, Bool, true, false, cond, List, ℕ, _≤_, arith, length, eqb, ℤ, pos, both-true, eqb-true}
+use Rattle.whole.proofs.Laws.{_≡_, refl, sym, ap, subst, _∙_, List, ℕ, length, eqb, ℤ, pos, both-true, eqb-true}
 use Rattle.plane.proofs.Laws.{entries}
 use Rattle.digits.proofs.Laws.{StoredSystem, System, systemOf}
-use Rattle.admission.proofs.Laws.{Admitted, Admissible, admissionOf, number-0, admitted-exactly}
 use Rattle.runs.proofs.Laws.{Deed, andThen}
-use Rattle.states.proofs.Laws.{Held, Nothing, Digit, State, HeldDigit}
+use Rattle.states.proofs.Laws.{State}
 use Rattle.opening.proofs.Laws.{Opens, openingNumber, openOf, opening-0}
-use Rattle.unary.proofs.Laws.{Ran, runOf, in-range}
+use Rattle.unary.proofs.Laws.{runOf, in-range}
 use Rattle.meaning.proofs.Laws.{session-sound, session-accepted, session-product, session-scale, session-named, session-numbers, newly-opened, called-by-contract}
 use Rattle.meaning.specs.Session.{Session, ProductHolds, ScaleNamed, NamedHolds, NumbersHold}
-use Rattle.numbers.proofs.Laws.{wrongLength, wrote, written-0, stateNumbers, stateAfter, known, Byte, state-back}
-use Rattle.numbers.specs.Numbers.{Wrote, columns?, stateFrom}
+use Rattle.numbers.proofs.Laws.{wrongLength, written-0, stateNumbers, stateAfter, known, state-back}
+use Rattle.numbers.specs.Numbers.{Wrote, stateFrom}
 use Rattle.open_call.proofs.Laws.{openCall}
 use Rattle.open_call.specs.OpenCall.{openLengths?, opened as openedCall}
 use Rattle.run_call.proofs.Laws.{runCall}
-use Rattle.run_call.specs.RunCall.{AfterRun, afterRun, runLengths?, ranCall}
-use Rattle.plugin.specs.Calls.{admitNumber}
+use Rattle.run_call.specs.RunCall.{AfterRun, runLengths?, ranCall}
 use Rattle.plugin_sessions.specs.PluginSession.{PluginSession, opened, called, IsSession, didCall}
+use Rattle.plugin_sessions.proofs.Shared.{not-40, answers-0, admits, held-byte}
 
 -- ---- a session's state is read back from its numbers
-
-held-byte : (n : ℕ) (h : Held) → n ≤ 16 → HeldDigit n h → Byte h
-held-byte n Nothing few d = tt
-held-byte n (Digit a) few d = omega arith
 
 pub session-state-back : {a b : System} {m : List ℤ} {done : Deed} {s : State} → Session a b m done s → stateFrom (stateNumbers s) ≡ s
 session-state-back {a} {s = s} session =
     let sound = session-sound session in
     state-back s (sound .four) (held-byte (a .count) (s .held) (session .input .few-digits) (sound .held-digit))
 
--- ---- what an answer 0 says
-
--- 40 is none of the numbers that are asked for
-wrong-not-0 : {t : Bool} {n : ℕ} → cond t n wrongLength ≡ 0 → (t ≡ true) × (n ≡ 0)
-wrong-not-0 {t = true} e = (refl, e)
-wrong-not-0 {t = false} e = absurd (omega arith)
-
-admits : (s : StoredSystem) → admitNumber s ≡ 0 → Admissible (systemOf s)
-unfolding admitNumber
-admits s e = admitted-exactly (systemOf s) Admitted .0 (number-0 (admissionOf (systemOf s)) (wrong-not-0 {t = columns? (s .columns)} e .1))
+-- ---- opening
 
 -- a matrix of four numbers that opens, and its state's numbers
 record Opened (m old : List ℤ) : Type 0 where
@@ -50,22 +36,16 @@ record Opened (m old : List ℤ) : Type 0 where
 
 opens-call : (m old : List ℤ) → openCall m old .number ≡ 0 → Opened m old
 unfolding openCall
-opens-call m old e = by-lengths (openLengths? m old) refl e
-  where
-    right : openLengths? m old ≡ true → openedCall (openOf (entries m)) old .number ≡ 0 → openCall m old ≡ openedCall (openOf (entries m)) old → Opened m old
-    right l n c =
-        let four = eqb-true (length m) 4 (both-true (eqb (length m) 4) (eqb (length old) 5) l .0) in
-        let same : entries m ≡ m = rw (known (pos 0) 4 m four) in
-        let number = written-0 (openingNumber (openOf (entries m) .opening)) old (stateNumbers (openOf (entries m) .state)) n in
-        record {
-          four = four;
-          opens = ap (λ (x : List ℤ). openOf x .opening) (sym same) ∙ opening-0 (openOf (entries m) .opening) (number .0);
-          numbers = ap (λ (w : Wrote). w .numbers) c ∙ number .1 ∙ ap (λ (x : List ℤ). stateNumbers (openOf x .state)) same;
-        }
-
-    by-lengths : (t : Bool) → openLengths? m old ≡ t → cond t (openedCall (openOf (entries m)) old) (wrote wrongLength old) .number ≡ 0 → Opened m old
-    by-lengths true l n = right l n (rw l)
-    by-lengths false l n = absurd (omega arith)
+opens-call m old e =
+    let right = answers-0 (λ (w : Wrote). w .number) refl (openLengths? m old) e in
+    let four = eqb-true (length m) 4 (both-true (eqb (length m) 4) (eqb (length old) 5) (right .0) .0) in
+    let same : entries m ≡ m = rw (known (pos 0) 4 m four) in
+    let number = written-0 (openingNumber (openOf (entries m) .opening)) old (stateNumbers (openOf (entries m) .state)) (ap (λ (w : Wrote). w .number) (sym (right .1)) ∙ e) in
+    record {
+      four = four;
+      opens = ap (λ (x : List ℤ). openOf x .opening) (sym same) ∙ opening-0 (openOf (entries m) .opening) (number .0);
+      numbers = ap (λ (w : Wrote). w .numbers) (right .1) ∙ number .1 ∙ ap (λ (x : List ℤ). stateNumbers (openOf x .state)) same;
+    }
 
 -- ---- the calls
 
@@ -93,14 +73,9 @@ module _ {in-system out-system : StoredSystem} {m : List ℤ} {done : Deed} {kep
 
   called-is : (counts : List ℕ) → (runCall in-system out-system input kept output divisors counts .number ≡ wrongLength → ⊥) → Leaves (runCall in-system out-system input kept output divisors counts)
   unfolding runCall
-  called-is counts right = by (runLengths? in-system out-system kept counts) right
-    where
-      ran : Ran
-      ran = runOf a b (stateFrom kept) input output divisors
-
-      by : (t : Bool) → (cond t (ranCall ran kept) (afterRun wrongLength kept output divisors counts) .number ≡ wrongLength → ⊥) → Leaves (cond t (ranCall ran kept) (afterRun wrongLength kept output divisors counts))
-      by true f = subst (λ (s : State). Leaves (ranCall (runOf a b s input output divisors) kept)) (sym (is .read-back)) ran-is
-      by false f = absurd (f refl)
+  called-is counts right =
+      let ran = subst (λ (s : State). Leaves (ranCall (runOf a b s input output divisors) kept)) (sym (is .read-back)) ran-is in
+      subst Leaves (sym (not-40 (λ (r : AfterRun). r .number) refl (runLengths? in-system out-system kept counts) right .1)) ran
 
 pub plugin-session : {a b : StoredSystem} {m : List ℤ} {done : Deed} {kept : List ℤ} → PluginSession a b m done kept → IsSession a b m done kept
 plugin-session {a} {b} {m} (opened i o old e) =

@@ -1,2 +1,3 @@
 -- Sessions of plug-ins, as definitions.
 pub mod PluginSession
+pub mod TwoPluginSession
