@@ -1,7 +1,7 @@
 -- "A run judges its input system (3, 6 to 10), its output system, then the state (12), before any step." The test of refusal 12 says exactly the rules for a state;
 -- nothing is refused exactly if both systems are admitted and the state keeps the rules; a refusal has one of those numbers.
 -- The argument goes through the three judgements in their order: the first number that is not 0 decides.
-use Rattle.whole.proofs.Laws.{_≡_, refl, Bool, true, false, cond, _&&_, _⊎_, inl, inr, _↔_, ℕ, zero, suc, arith, eqb-true, eq-eqb, pos, ltZ, gcd4, unlessRefused, lt-true, true-lt, both-true, true-both, within?, lowest?, within-says, says-within}
+use Rattle.whole.proofs.Laws.{_≡_, refl, sym, ap, _∙_, passed, decided, Bool, true, false, cond, _&&_, _⊎_, inl, inr, _↔_, ℕ, zero, suc, arith, eqb-true, eq-eqb, pos, ltZ, gcd4, unlessRefused, lt-true, true-lt, both-true, true-both, within?, lowest?, within-says, says-within}
 use Rattle.plane.proofs.Laws.{determinantOf}
 use Rattle.digits.proofs.Laws.{System}
 use Rattle.admission.proofs.Laws.{Admitted, refusalNumber, admissionOf, SystemNumber, number-0, admission-number, admitted-few, admitted-digits}
@@ -122,3 +122,10 @@ either-first (suc a) b c = refl
 pub by-systems : (y : Setting) (kept : Bool) → refusalBy y kept ≡ unlessRefused (refusalBy y true) (λ n. n) (cond kept 0 12)
 unfolding refusalBy
 by-systems y kept = either-first (refusalNumber (admissionOf (y .input))) (refusalNumber (admissionOf (y .output))) (cond kept 0 12)
+
+-- the number n of the two systems decides where it is not 0, and else the state
+pub system-decides : (y : Setting) (kept : Bool) {n : ℕ} → n ≡ refusalBy y true → (n ≡ 0 → ⊥) → n ≡ refusalBy y kept
+system-decides y kept e f = e ∙ sym (by-systems y kept ∙ decided _ _ (λ z. f (e ∙ z)))
+
+pub state-decides : (y : Setting) (kept : Bool) {n : ℕ} {t : Bool} → n ≡ refusalBy y true → n ≡ 0 → kept ≡ t → stateNumber t ≡ refusalBy y kept
+state-decides y kept e z k = sym (by-systems y kept ∙ passed _ _ (sym e ∙ z) ∙ ap stateNumber k)

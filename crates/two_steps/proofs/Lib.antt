@@ -1,4 +1,5 @@
--- One step over two words, as theorems. Laws is the front door. The folders prove the functions of src/lib.rt, each by its name.
+-- One step over two words, as theorems. Laws is the front door. The folders prove the functions of src/, each by its name, those of src/loading.rt and
+-- src/making.rt in folders of their own.
 --   Ways       the five ways that a step goes on and the four in which it stops: what is to be shown of a step is shown of these
 --   Lawful     the step is one of the kind that crates/runs speaks of
 --   Kept       every step keeps the rules for a state and gives out digits only

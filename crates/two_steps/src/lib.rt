@@ -3,16 +3,16 @@ ghost use mathlib.Core.Path.{_≡_};
 ghost use mathlib.Core.List.{List};
 ghost use Prim.Native.Nat.{ℕ, _-_};
 ghost use lib.ListN.{drop};
-ghost use lib.IntN.{pos, natAbs};
-ghost use lib.Signed.{_<ℤ_};
-ghost use Rattle.whole.specs.Range.{Within};
-ghost use Rattle.plane.specs.Plane.{determinantOf};
 ghost use Rattle.digits.specs.Orders.{lent, Columns};
 ghost use Rattle.fitting.specs.FirstFit.{fits};
 ghost use Rattle.steps.specs.Step.{setting};
 ghost use Rattle.steps.specs.Made.{Usable};
-ghost use Rattle.two_steps.specs.TwoStep.{twoWords, loadX, loadY, choice, bothHeld, twoPlan};
-ghost use Rattle.two_steps.specs.Made.{nextOf, Follows, givenProduct, absorbedProduct, productBy, absorbedBy, movedBy, finishedBy, noRoom?, WorksWith, WorksWhere, Cancellable, Ready};
+ghost use Rattle.two_steps.specs.TwoStep.{twoWords, choice, bothHeld, twoPlan};
+ghost use Rattle.two_steps.specs.Made.{Follows, absorbedBy, movedBy, finishedBy, noRoom?, WorksWith, Cancellable, Ready};
+
+mod loading; // loading.rt: a missing digit is loaded
+mod making; // making.rt: the eight numbers that a step makes, before they are cancelled
+
 use bilinear::Form;
 use fitting::Fitting;
 use states::Held;
@@ -41,128 +41,10 @@ pub struct Move {
     pub state: TwoState,
 }
 
-// The byte behind the i that are taken, where the input system has so many digits.
-fn next_byte(count: usize, word: &[u8], i: usize) -> Next
-    ensures { λ r. ⌜ r ≡ nextOf count (drop i (now (word .entry))) ⌝ }
-{
-    if i < word.len() {
-        let b = word[i];
-        if (b as usize) < count {
-            return Next::Is(b);
-        }
-        return Next::Other;
-    }
-    Next::Used
-}
-
-// "A missing digit is loaded before anything else, x before y." x's is missing: by its next byte.
-fn load_x(s: TwoState, next: Next) -> Move
-    ensures { λ r. ⌜ ((count : ℕ) (xs ys : List ℕ) (room : ℕ) → next ≡ nextOf count xs → Follows (loadX count s) s (twoWords xs ys room) r) ⌝ }
-{
-    match next {
-        Next::Used => Move {
-            kind: Kind::Halt(Stop::InputUsed),
-            state: s,
-        },
-        Next::Other => Move {
-            kind: Kind::Halt(Stop::NotADigit),
-            state: s,
-        },
-        Next::Is(b) => Move {
-            kind: Kind::LoadX(b),
-            state: two_states::loaded_x(s, b),
-        },
-    }
-}
-
-// And y's.
-fn load_y(s: TwoState, next: Next) -> Move
-    ensures { λ r. ⌜ ((count : ℕ) (xs ys : List ℕ) (room : ℕ) → next ≡ nextOf count ys → Follows (loadY count s) s (twoWords xs ys room) r) ⌝ }
-{
-    match next {
-        Next::Used => Move {
-            kind: Kind::Halt(Stop::InputUsed),
-            state: s,
-        },
-        Next::Other => Move {
-            kind: Kind::Halt(Stop::NotADigit),
-            state: s,
-        },
-        Next::Is(b) => Move {
-            kind: Kind::LoadY(b),
-            state: two_states::loaded_y(s, b),
-        },
-    }
-}
-
 // The eight numbers that a step makes with the transformation of a digit, before they are cancelled, and the determinant of that: what is cancelled divides it.
-struct Product {
-    form: Form,
-    determinant: u64,
-}
-
-// The determinant of a digit's transformation, which is above 0.
-fn determinant_of(f: [i64; 4]) -> u64
-    requires { ⌜ (Within 100 f) × (pos 0 <ℤ determinantOf f) ⌝ }
-    ensures { λ r. ⌜ r ≡ natAbs (determinantOf f) ⌝ }
-{
-    plane::determinant(f) as u64
-}
-
-// The digit c is given out: pseudoinverse(G_c)·X.
-fn given_product(columns: &[i16], s: TwoState, c: u8) -> Product
-    requires { ⌜ WorksWith (now columns) s c ⌝ }
-    ensures { λ p. ⌜ p ≡ givenProduct (now (columns .entry)) s c ⌝ }
-{
-    let g = digits::transformation(columns, c as usize);
-    let x = s.form;
-    Product {
-        form: bilinear::times(plane::pseudoinverse(g), x),
-        determinant: determinant_of(g),
-    }
-}
-
-// The digit whose turn it is, a of x or b of y, is absorbed.
-fn absorbed_product(columns: &[i16], s: TwoState, a: u8, b: u8) -> Product
-    requires { ⌜ (WorksWith (now columns) s a) × (WorksWith (now columns) s b) ⌝ }
-    ensures { λ p. ⌜ p ≡ absorbedProduct (now (columns .entry)) s a b (s .turn) ⌝ }
-{
-    let x = s.form;
-    let turn = s.turn;
-    match turn {
-        Turn::OfX => {
-            let f = digits::transformation(columns, a as usize);
-            Product {
-                form: bilinear::into_x(x, f),
-                determinant: determinant_of(f),
-            }
-        }
-        Turn::OfY => {
-            let f = digits::transformation(columns, b as usize);
-            Product {
-                form: bilinear::into_y(x, f),
-                determinant: determinant_of(f),
-            }
-        }
-    }
-}
-
-// Where no digit was found, the one whose turn it is is absorbed, and one that was found is given out.
-fn step_product(
-    input_columns: &[i16],
-    output_columns: &[i16],
-    s: TwoState,
-    a: u8,
-    b: u8,
-    fit: Fitting,
-) -> Product
-    requires { ⌜ (WorksWith (now «input_columns») s a) × (WorksWith (now «input_columns») s b) × (WorksWhere (now «output_columns») s (fits fit)) ⌝ }
-    ensures { λ p. ⌜ p ≡ productBy (now («input_columns» .entry)) (now («output_columns» .entry)) s a b (fits fit) ⌝ }
-{
-    match fit {
-        Fitting::Missing => absorbed_product(input_columns, s, a, b),
-        Fitting::At(c) => given_product(output_columns, s, c),
-    }
+pub struct Product {
+    pub form: Form,
+    pub determinant: u64,
 }
 
 // The state with the new numbers, behind absorbing.
@@ -262,7 +144,7 @@ fn emit(
     finished(
         s,
         fit,
-        step_product(input_columns, output_columns, s, a, b, fit),
+        making::step_product(input_columns, output_columns, s, a, b, fit),
     )
 }
 
@@ -286,9 +168,9 @@ pub fn step(
     let x = s.x;
     let y = s.y;
     match x {
-        Held::Nothing => load_x(s, next_byte(input_count, xs, i)),
+        Held::Nothing => loading::load_x(s, loading::next_byte(input_count, xs, i)),
         Held::Digit(a) => match y {
-            Held::Nothing => load_y(s, next_byte(input_count, ys, j)),
+            Held::Nothing => loading::load_y(s, loading::next_byte(input_count, ys, j)),
             Held::Digit(b) => emit(
                 input_columns,
                 output_count,

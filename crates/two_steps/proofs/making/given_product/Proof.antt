@@ -1,11 +1,11 @@
--- `two_steps::given_product` meets its contract: the pseudoinverse of the digit's transformation, times the eight numbers.
+-- `two_steps::making::given_product` meets its contract: the pseudoinverse of the digit's transformation, times the eight numbers.
 use Rattle.whole.proofs.Laws.{needs, _≡_, sym, ap, subst, _∙_, List, ℤ, now, Within, within-le}
 use Rattle.plane.proofs.Laws.{pseudoinverseOf, pseudoinverse-within}
 use Rattle.bilinear.proofs.Laws.{timesForm}
 use Rattle.digits.proofs.Laws.{transformationAt}
 use Rattle.two_steps.proofs.Works.{numbers-small, determinant-above, made-product}
-use Rattle.two_steps.proofs.given_product.Statement.{statement}
-use Rattle.two_steps.proofs.given_product.Tie as tie
+use Rattle.two_steps.proofs.making.given_product.Statement.{statement}
+use Rattle.two_steps.proofs.making.given_product.Tie as tie
 
 pseudoinverse-requires : tie.Need-pseudoinverse-requires
 pseudoinverse-requires c κs = let t = c .before in within-le (numbers-small (t .before .pre) (t .transformation .ensures)) tt

@@ -1,8 +1,8 @@
--- `two_steps::next_byte` meets its contract: by whether there is a byte, and whether it is a digit.
+-- `two_steps::loading::next_byte` meets its contract: by whether there is a byte, and whether it is a digit.
 use Rattle.whole.proofs.Laws.{needs, arith, now}
 use Rattle.two_steps.proofs.Plans.{next-used, next-is, next-other}
-use Rattle.two_steps.proofs.next_byte.Statement.{statement}
-use Rattle.two_steps.proofs.next_byte.Tie as tie
+use Rattle.two_steps.proofs.loading.next_byte.Statement.{statement}
+use Rattle.two_steps.proofs.loading.next_byte.Tie as tie
 
 cast-if2 : tie.Need-cast-if2
 cast-if2 c = omega (arith, c .shared-slice-known .given (c .before .before .args .i))

@@ -1,10 +1,10 @@
--- `two_steps::step_product` meets its contract, by whether a digit was found.
+-- `two_steps::making::step_product` meets its contract, by whether a digit was found.
 use Rattle.whole.proofs.Laws.{needs, _≡_, sym, subst, now}
 use Rattle.fitting.proofs.Laws.{Fitting, fits}
 use Rattle.two_steps.specs.Types.{Product}
 use Rattle.two_steps.specs.Made.{WorksWhere, productBy}
-use Rattle.two_steps.proofs.step_product.Statement.{statement}
-use Rattle.two_steps.proofs.step_product.Tie as tie
+use Rattle.two_steps.proofs.making.step_product.Statement.{statement}
+use Rattle.two_steps.proofs.making.step_product.Tie as tie
 
 -- what is to be shown, by what was found
 abbrev By : tie.Start → Product → Fitting → Type 0

@@ -1,12 +1,12 @@
--- `two_steps::absorbed_product` meets its contract, by whose turn it is.
+-- `two_steps::making::absorbed_product` meets its contract, by whose turn it is.
 use Rattle.whole.proofs.Laws.{needs, _≡_, sym, ap, subst, _∙_, ℕ, now}
 use Rattle.bilinear.proofs.Laws.{Form, intoX, intoY}
 use Rattle.two_states.proofs.Laws.{Turn}
 use Rattle.two_steps.specs.Types.{Product}
 use Rattle.two_steps.specs.Made.{absorbedProduct}
 use Rattle.two_steps.proofs.Works.{numbers-small, determinant-above, made-product}
-use Rattle.two_steps.proofs.absorbed_product.Statement.{statement}
-use Rattle.two_steps.proofs.absorbed_product.Tie as tie
+use Rattle.two_steps.proofs.making.absorbed_product.Statement.{statement}
+use Rattle.two_steps.proofs.making.absorbed_product.Tie as tie
 
 -- what is to be shown, by the turn
 abbrev By : tie.Start → Form → ℕ → Turn → Type 0

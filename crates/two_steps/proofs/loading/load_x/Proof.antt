@@ -1,9 +1,9 @@
--- `two_steps::load_x` meets its contract, by the three cases of the next byte.
+-- `two_steps::loading::load_x` meets its contract, by the three cases of the next byte.
 use Rattle.whole.proofs.Laws.{needs, sym, _∙_}
 use Rattle.two_steps.specs.Types.{Used, Other, Is}
 use Rattle.two_steps.proofs.Plans.{loads-x}
-use Rattle.two_steps.proofs.load_x.Statement.{statement}
-use Rattle.two_steps.proofs.load_x.Tie as tie
+use Rattle.two_steps.proofs.loading.load_x.Statement.{statement}
+use Rattle.two_steps.proofs.loading.load_x.Tie as tie
 
 returns : tie.Need-returns
 returns c = λ count xs ys room e. loads-x count (c .before .before .args .s) xs ys room Used (sym (c .enum-told .given .1) ∙ e)
