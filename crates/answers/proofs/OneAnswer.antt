@@ -19,6 +19,7 @@ use Rattle.columns_call.proofs.Laws.{columnsCall, rowsCall}
 use Rattle.run_call.proofs.Laws.{AfterRun, runCall}
 use Rattle.read_call.proofs.Laws.{AfterRead, readCall}
 use Rattle.two_states.proofs.Laws.{TwoState}
+use Rattle.binary.proofs.Laws.{TwoAnswer, twoRan, twoRun}
 use Rattle.two_call.proofs.Laws.{AfterTwo, twoOpened, twoCall}
 use Rattle.plugin.specs.Calls.{admitNumber}
 
@@ -60,6 +61,14 @@ one-refusal y s r r′ = one
 pub one-run : (a b : System) (s : State) (input output divisors : List ℕ) (r r′ : Answer) (new new′ list list′ : List ℕ) →
     ran r new list ≡ runOf a b s input output divisors → ran r′ new′ list′ ≡ runOf a b s input output divisors → ran r new list ≡ ran r′ new′ list′
 one-run a b s input output divisors r r′ new new′ list list′ = one
+
+-- the same over two words; and its openings
+pub one-two-run : (a b : System) (s : TwoState) (xs ys output : List ℕ) (r r′ : TwoAnswer) (new new′ : List ℕ) →
+    twoRan r new ≡ twoRun a b s xs ys output → twoRan r′ new′ ≡ twoRun a b s xs ys output → twoRan r new ≡ twoRan r′ new′
+one-two-run a b s xs ys output r r′ new new′ = one
+
+pub one-two-opening : (s r r′ : TwoState) → r ≡ s → r′ ≡ s → r ≡ r′
+one-two-opening s r r′ = one
 
 -- read
 pub one-reading : (file : List ℕ) (r r′ : Reading) → r ≡ readOf file → r′ ≡ readOf file → r ≡ r′

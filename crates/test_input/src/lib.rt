@@ -123,15 +123,6 @@ pub fn numbers(buffer: &mut [i16]) -> usize
     n
 }
 
-// Numbers of eight bytes with a sign, as many as the buffer has.
-pub fn signed_numbers(buffer: &mut [i64]) {
-    let mut p = 0;
-    while p < buffer.len() {
-        buffer[p] = signed();
-        p += 1;
-    }
-}
-
 // The same of numbers of eight bytes, as many as a byte before them says.
 pub fn list(buffer: &mut [u64]) -> usize
     ensures { λ r. ⌜ (r ≤ length (now (buffer .exit))) × (r ≡ length (take r (now (buffer .exit)))) ⌝ }
@@ -146,6 +137,15 @@ pub fn list(buffer: &mut [u64]) -> usize
         p += 1;
     }
     n
+}
+
+// Numbers of eight bytes with a sign, as many as the buffer has.
+pub fn signed_numbers(buffer: &mut [i64]) {
+    let mut p = 0;
+    while p < buffer.len() {
+        buffer[p] = signed();
+        p += 1;
+    }
 }
 
 // As many bytes as a byte before them says.
