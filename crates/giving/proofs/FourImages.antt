@@ -3,7 +3,7 @@
 use Rattle.whole.proofs.Laws.{_≡_, sym, subst, List, [], _∷_, ℤ, _+ℤ_, _*ℤ_, at, Within, within-le, _⊕_, _⊗_, _≗_, law}
 use Rattle.plane.proofs.Laws.{Pair, left, right, multiplyOf, multiply-within, pair-equal, FactorsFit}
 use Rattle.products.proofs.Laws.{factors-fit}
-use Rattle.bilinear.proofs.Laws.{Form, form, onTwo, applyTwo, turnedOver, WithinForm}
+use Rattle.bilinear.proofs.Laws.{Form, form, onTwo, applyTwo, turnedOver, WithinForm, turned-within}
 use Rattle.giving.specs.MayGive.{imagesOf, columnsOfForm}
 
 -- v·R·w, and the two of a state
@@ -34,15 +34,12 @@ images-form m v w = λ i.
 
 -- ---- ranges
 
-turned-within : (w : List ℤ) → Within 100 w → Within 100 (turnedOver w)
-turned-within w k = record { n0 = k .n0; n1 = k .n2; n2 = k .n1; n3 = k .n3 }
-
 -- what the second product asks, of the answers to the first and to turning over
 pub second-fits : {v r w n t : List ℤ} → Within 100 v → Within 1000000000 r → Within 100 w → n ≡ multiplyOf v r → t ≡ turnedOver w → FactorsFit n t
-second-fits {w = w} p q k e f = factors-fit (subst (Within 200000000000) (sym e) (within-le (multiply-within p q) tt)) (subst (Within 100) (sym f) (turned-within w k)) tt
+second-fits p q k e f = factors-fit (subst (Within 200000000000) (sym e) (within-le (multiply-within p q) tt)) (subst (Within 100) (sym f) (turned-within k)) tt
 
 pub ends-within : {v r w : List ℤ} → Within 100 v → Within 1000000000 r → Within 100 w → Within 40000000000000 (endsOf v r w)
-ends-within {w = w} p q k = within-le (multiply-within (multiply-within p q) (turned-within w k)) tt
+ends-within p q k = within-le (multiply-within (multiply-within p q) (turned-within k)) tt
 
 pub images-within : {m : Form} {v w : List ℤ} → WithinForm 1000000000 m → Within 100 v → Within 100 w → WithinForm 40000000000000 (imagesForm m v w)
 images-within k p q = record { over = ends-within p (k .over) q; under = ends-within p (k .under) q }
