@@ -1,6 +1,5 @@
-# Of the tables of one or two runs of bench/bench.c: the lower ratios of each case, and whether the bars hold.
-#   awk -f bench/bars.awk TABLE..
-function lower(a, b) { return a == "" || b + 0 < a + 0 ? b : a }
+# Of the table of a run of bench/bench.c: the ratios of each case, and whether the bars hold.
+#   awk -f bench/bars.awk TABLE
 function judged(ratio, bar) {
     if (bar == 0) return ratio == "" ? "|" : ratio " |"
     bars++
@@ -12,8 +11,8 @@ function judged(ratio, bar) {
 BEGIN { FS = " *[|] *" }
 /^\|/ && !/^\| case/ && !/^\|-/ {
     if (!($2 in letter)) cases[++n] = $2
-    letter[$2] = lower(letter[$2], $7)
-    same[$2] = lower(same[$2], $8)
+    letter[$2] = $7
+    same[$2] = $8
 }
 END {
     print "| case | proved / to the letter | bar | proved / the same | bar |"

@@ -18,6 +18,8 @@ DECLARED = re.compile(r"(?m)^ *(?:(?:pub|abbrev|unfoldable|pattern|private|infix
 QUIET = re.compile(r'"(?:[^"\\\n]|\\.)*"|(?<![^\s(){}.;,@"«»])--[^\n]*|(?<![:"])//[^\n]*')
 SPAN = re.compile(r"`[^`\n]*`")
 USE = re.compile(r"(?m)^ *(?:pub |ghost )*use ([^\s;{]+?)\.\{([^{}]*)\}")
+# the files that say R, B and D for the built-in systems
+SYSTEMS = tuple(f"crates/{it}.antt" for it in ("meaning/proofs/Premise", "meaning/proofs/Laws", "meaning/proofs/WorkedSession", "two_meaning/proofs/WorkedPairs"))
 # values that were spelled like types: (folders, old, new)
 OTHERS = [
     (("crates/",), "Det", "det_e"),
@@ -28,9 +30,9 @@ OTHERS = [
     (("crates/expanding/",), "Far", "far_e"),
     (("crates/whole/proofs/",), "C", "const_h"),
     (("crates/whole/proofs/",), "X", "plus_x"),
-    (("crates/meaning/proofs/Premise.antt",), "R", "system_r"),
-    (("crates/meaning/proofs/Premise.antt",), "B", "system_b"),
-    (("crates/meaning/proofs/Premise.antt",), "D", "system_d"),
+    (SYSTEMS, "R", "system_r"),
+    (SYSTEMS, "B", "system_b"),
+    (SYSTEMS, "D", "system_d"),
 ]
 PAGES = (".md",)
 

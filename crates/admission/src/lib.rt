@@ -1,5 +1,7 @@
 // Which digit systems are admitted: document 01's section "A digit system" and its refusals 3 and 6 to 10, and document 02's 18.
 // Public: `Admission`, `refusal_number`, `admit`. `admission_of` is for the crates above, which lend a system's numbers as a slice.
+#![tactic(auto)]
+
 ghost use Rattle.std.specs.Prelude.{◌≡◌, ◌≤◌};
 ghost use Rattle.digits.specs.Orders.{lent, Columns, system_of};
 ghost use Rattle.admission.specs.Admission.{refusal_number, rows_verdict, admission_of};
@@ -9,7 +11,7 @@ use digits::System;
 mod row; // row.rt: refusals 6 to 9
 
 // What the judgement of a system answers: admitted, or which rule it breaks first. `refusal_number` gives document 01's number for each.
-#[derive(Drop)]
+#[derive(Clone, Copy)]
 pub enum Admission {
     Admitted,
     WrongCount,

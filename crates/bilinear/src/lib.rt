@@ -1,5 +1,7 @@
 // The eight numbers of a state over two words, on machine words (document 02, T-14): what absorbing and giving make of them, and cancelling.
 // A state's numbers lie within ±1,000,000,000 and a digit's within ±100, so those of a product lie within ±200,000,000,000. For our crates above; nothing here is for plug-ins.
+#![tactic(auto)]
+
 ghost use Rattle.std.specs.Prelude.{◌≡◌, ◌<◌};
 ghost use Rattle.std.specs.Int.{◌∣◌};
 ghost use Rattle.whole.specs.Range.{Within};
@@ -7,7 +9,7 @@ ghost use Rattle.bilinear.specs.Form.{into_x, into_y, times_form, turned_over, f
 ghost use Rattle.bilinear.specs.Lowest.{gcd8, lowest_form?, cancel_form, Divides8, WithinForm, within_form?};
 
 // The coefficients of xy, x, y and 1 in the numerator, and in the denominator.
-#[derive(Drop)]
+#[derive(Clone, Copy)]
 pub struct Form {
     pub numerator: [i64; 4],
     pub denominator: [i64; 4],

@@ -1,5 +1,7 @@
 // Runs over two words: their sum, difference and product (document 02, T-14). `run` (opening and the state: crates/two_states; one step: crates/two_steps).
 // Public: `run` with the type of its answer. The rest is what our other crates call.
+#![tactic(auto)]
+
 ghost use Rattle.std.specs.Prelude.{◌≡◌};
 ghost use Rattle.digits.specs.Orders.{lent, Columns, system_of};
 ghost use Rattle.steps.specs.Step.{setting};
@@ -12,16 +14,16 @@ use two_states::TwoState;
 use two_steps::Kind;
 
 // The counts, kept apart: bytes taken of x, bytes taken of y, digits written.
-#[derive(Drop)]
+#[derive(Clone, Copy)]
 pub struct TakenX(pub usize);
 
-#[derive(Drop)]
+#[derive(Clone, Copy)]
 pub struct TakenY(pub usize);
 
-#[derive(Drop)]
+#[derive(Clone, Copy)]
 pub struct Written(pub usize);
 
-#[derive(Drop)]
+#[derive(Clone, Copy)]
 pub struct TwoAnswer {
     pub stop: Stop,
     pub x: TakenX,

@@ -1,5 +1,7 @@
 // Which built-in systems a run has: found out once a run, so that its steps can have the digits of R and of B as constants (crate `built_in_digits`). A system is R if it has as
 // many digits as R and their numbers; what stands in unused places does not count. For the crate `unary`; nothing here is for plug-ins.
+#![tactic(auto)]
+
 ghost use Rattle.std.specs.Prelude.{◌≡◌, ◌≤◌};
 ghost use Rattle.digits.specs.BuiltIn.{rows_r, rows_b};
 ghost use Rattle.digits.specs.Orders.{Columns, DigitThere};

@@ -1,5 +1,7 @@
 // The digits of R and of B as constants, for runs that have these systems (crate `built_in`): nothing of theirs is read, and with R nothing is multiplied, since its numbers
 // are 0, 1 and −1. Each function is the general one of `products` or `fitting`, a digit at a time. For the crates of a step; nothing here is for plug-ins.
+#![tactic(auto)]
+
 ghost use Rattle.std.specs.Prelude.{◌≡◌, ◌<◌};
 ghost use Rattle.whole.specs.Range.{Within};
 ghost use Rattle.plane.specs.Plane.{Interval, multiply_of, pseudoinverse_of, image_of};

@@ -1,4 +1,6 @@
 // Cancelling, on machine words: "To cancel a matrix, divide it by the greatest common divisor of the four entries. Signs stay." What it says: crates/plane.
+#![tactic(auto)]
+
 ghost use Rattle.std.specs.Prelude.{true, ◌↔◌, ◌≡◌, ◌<◌, nat_abs};
 ghost use Rattle.std.specs.Int.{◌∣◌};
 ghost use Rattle.whole.specs.Range.{Within};
@@ -41,7 +43,7 @@ pub fn quotients(m: [i64; 4], g: u64) -> [i64; 4]
 }
 
 // "Cancelling hands back its divisor beside the matrix" (document 02, T-02).
-#[derive(Drop)]
+#[derive(Clone, Copy)]
 pub struct Cancelled {
     pub divisor: u64,
     pub matrix: [i64; 4],

@@ -1,4 +1,6 @@
 // A system turned from rows, as a person writes it, into columns, as the library takes it, and back, over numbers that a plug-in lends. `sled_columns` and `sled_rows` (crate `plugin`) are this for C.
+#![tactic(auto)]
+
 ghost use Rattle.std.specs.Prelude.{◌≡◌};
 ghost use Rattle.numbers.specs.Numbers.{lent_system, wrote};
 ghost use Rattle.columns_call.specs.ColumnsCall.{turn_number, columns_call_of, rows_call};

@@ -1,5 +1,7 @@
 // The cover: document 01's "every point lies in the closed interval of some digit", which refusal 10 is about. The intervals leave no point out exactly if behind the
 // right end of each, another goes on. For the crate `admission`; nothing here is for plug-ins.
+#![tactic(auto)]
+
 ghost use Rattle.std.specs.Prelude.{◌≡◌, ◌-◌, ◌<◌, ◌≤◌};
 ghost use Rattle.whole.specs.Range.{Within};
 ghost use Rattle.whole.specs.First.{first, found?};

@@ -1,6 +1,8 @@
 // Digit systems: document 01's section "A digit system". Which systems are admitted is the crate `admission`'s.
 // Public: `System`, and the built-in `system_r`, `system_b`, `system_d`. The crates above lend a system's numbers as a slice, and ask for a digit's `transformation` and `interval`: only this crate
 // knows where they stand.
+#![tactic(auto)]
+
 ghost use Rattle.std.specs.Prelude.{◌≡◌, [], ◌∷◌, ◌+◌, ◌<◌, length};
 ghost use Rattle.whole.specs.Range.{at};
 ghost use Rattle.digits.specs.Orders.{DigitThere, transformation_at, interval_at};
@@ -13,7 +15,7 @@ pub use tables::{system_b, system_d, system_r};
 
 // A system in memory: how many digits, and eight columns of sixteen numbers, one behind the other. Number j of digit a stands at 16·j + a. Whatever stands in the places of the digits from
 // `count` on changes no answer.
-#[derive(Drop)]
+#[derive(Clone, Copy)]
 pub struct System {
     pub count: usize,
     pub columns: [i16; 128],

@@ -1,5 +1,7 @@
 // Expanding: document 02's "W_a must be included in the set where the inverse of F_a expands", which refusal 18 is about. Three numbers decide it for a row, and no point is searched for.
 // A row's numbers lie within ±100, so that no number that is formed here leaves ±4,800,000,000. For the crate `admission`; nothing here is for plug-ins.
+#![tactic(auto)]
+
 ghost use Rattle.std.specs.Prelude.{◌≡◌, ◌≤◌};
 ghost use Rattle.whole.specs.Range.{Near, Within};
 ghost use Rattle.digits.specs.Orders.{lent, Columns};

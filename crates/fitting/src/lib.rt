@@ -1,4 +1,6 @@
 // The digit that may be given out: the first half of the step's line 4, a search. For the crate `one_step`; nothing here is for plug-ins.
+#![tactic(auto)]
+
 ghost use Rattle.std.specs.Prelude.{◌≡◌, ◌≤◌};
 ghost use Rattle.whole.specs.Range.{Within};
 ghost use Rattle.plane.specs.Plane.{Interval};
@@ -6,7 +8,7 @@ ghost use Rattle.digits.specs.Orders.{lent, Columns};
 ghost use Rattle.fitting.specs.FirstFit.{Searchable, fitting_of, fitting};
 
 // The digit that fits, if one does.
-#[derive(Drop)]
+#[derive(Clone, Copy)]
 pub enum Fitting {
     At(u8),
     Missing,

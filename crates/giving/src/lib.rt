@@ -1,4 +1,6 @@
 // The digit that may be given out where two digits are held: a search (document 02, T-14). For the crate `two_steps`; nothing here is for plug-ins.
+#![tactic(auto)]
+
 ghost use Rattle.std.specs.Prelude.{◌≡◌, ◌≤◌};
 ghost use Rattle.whole.specs.Range.{at, Near, Within};
 ghost use Rattle.plane.specs.Plane.{left};

@@ -1,6 +1,8 @@
 // Inclusion of intervals: document 01's "I is included in J exactly if every point inside I is inside J", decided by the signs of three determinants.
 // An image's ends lie within ±200,000,000,000 and a digit's numbers within ±100, so no determinant that is formed here leaves 64 bits. No product of two determinants is
 // formed: their signs are compared.
+#![tactic(auto)]
+
 ghost use Rattle.std.specs.Prelude.{◌≡◌};
 ghost use Rattle.whole.specs.Range.{Near, Within};
 ghost use Rattle.plane.specs.Plane.{Interval};

@@ -1,4 +1,6 @@
 // The sections of a job file: document 01's section "Job file". Each is read from the bytes from its count on. For the crate `jobs`; nothing here is for plug-ins.
+#![tactic(auto)]
+
 ghost use Rattle.std.specs.Prelude.{◌≡◌, ◌+◌, ◌*◌, ◌≤◌, length};
 ghost use Rattle.sections.specs.Answered.{Answered};
 ghost use Rattle.whole.specs.Range.{at};
@@ -8,14 +10,14 @@ ghost use Rattle.job_sections.specs.Sections.{number_at, numbers_in, system as s
 use digits::System;
 
 // What reading one section answers: the number of the refusal, or 0; and then how many bytes the section has, and its value.
-#[derive(Drop)]
+#[derive(Clone, Copy)]
 pub struct SystemSection {
     pub number: u8,
     pub size: usize,
     pub system: System,
 }
 
-#[derive(Drop)]
+#[derive(Clone, Copy)]
 pub struct MatrixSection {
     pub number: u8,
     pub size: usize,

@@ -1,9 +1,9 @@
 -- What is judged is so, and what `write` leaves: one law for each way. What passes the judgement has numbers that two bytes hold.
 use Rattle.whole.proofs.Laws.{◌≡◌, sym, ap, ◌∙◌, List, ℕ, ◌≤◌, ◌<◌, arith, lt-ltb, le-ltb, length, written}
 use Rattle.sections.proofs.Laws.{Exact, SaysOf, writes, refuses_value}
-use Rattle.job_sections.proofs.Laws.{Contents, layout_of, MatrixRules, Parts, job, parts_of, file_size, opened, matrix_16, job_lawful, layout_size}
+use Rattle.job_sections.proofs.Laws.{Contents, layout_of, MatrixRules, Parts, job, parts_of, opened, matrix_16, job_lawful, layout_size}
 use Rattle.job_writing.specs.Types.{Writing, Written, NotWritten}
-use Rattle.job_writing.specs.Writing.{judged_of, Wrote, wrote, written_by, write_of, Fits}
+use Rattle.job_writing.specs.Writing.{judged_of, wrote, written_by, write_of, Fits}
 
 -- what is said of contents that are judged so
 abbrev pub Says : Contents → Writing → Type 0

@@ -1,5 +1,7 @@
 // Writing a job file: document 02's T-01. What is handed in is judged as the reader judges a file with these contents; then the four sections are written, each into the rest of the buffer behind the ones
 // before it. `jobs::write` is this for systems by value; `write_lent` is for the crates above, which lend a system's numbers as slices.
+#![tactic(auto)]
+
 ghost use Rattle.std.specs.Prelude.{◌≡◌, ◌+◌, ◌*◌, ◌≤◌};
 ghost use Rattle.whole.specs.Written.{written};
 ghost use Rattle.digits.specs.Orders.{Columns, lent_system};
@@ -7,7 +9,7 @@ ghost use Rattle.job_sections.specs.Layout.{layout_of};
 ghost use Rattle.job_writing.specs.Writing.{contents, Fits, judged_of, wrote, write_of};
 
 // What writing answers: how many bytes the file has, or the number and the section of the refusal.
-#[derive(Drop)]
+#[derive(Clone, Copy)]
 pub enum Writing {
     Written(usize),
     NotWritten(u8, u8),

@@ -1,5 +1,7 @@
 // The job file: document 01's sections "Job file" and "Numbers of refusal", and document 02's T-01. Public: `read` with the types of its answer, and `write`. (The sections of a file: crates/job_sections. Writing it:
 // crates/job_writing, which has the type of `write`'s answer, `Writing`.)
+#![tactic(auto)]
+
 ghost use Rattle.std.specs.Prelude.{◌≡◌};
 ghost use Rattle.job_writing.specs.Writing.{contents, wrote, write_of};
 ghost use Rattle.jobs.specs.Reading.{refused as refusedOf, read_of};
@@ -8,14 +10,14 @@ use digits::System;
 use job_writing::Writing;
 
 // Where the word stands in the file: its bytes stay there, and are not tested here.
-#[derive(Drop)]
+#[derive(Clone, Copy)]
 pub struct Word {
     pub start: usize,
     pub length: usize,
 }
 
 // A job: two systems, a matrix, and where the word stands.
-#[derive(Drop)]
+#[derive(Clone, Copy)]
 pub struct Job {
     pub input: System,
     pub output: System,
@@ -24,14 +26,14 @@ pub struct Job {
 }
 
 // The file reads, or it is refused by a number in a section, 0 to 3.
-#[derive(Drop)]
+#[derive(Clone, Copy)]
 pub enum Verdict {
     Reads,
     Refused(u8, u8),
 }
 
 // What reading answers. A refused file hands back no job: all of it is 0.
-#[derive(Drop)]
+#[derive(Clone, Copy)]
 pub struct Reading {
     pub verdict: Verdict,
     pub job: Job,

@@ -1,4 +1,6 @@
 // What a run judges before any step: document 01's section "The step", refusal 12.
+#![tactic(auto)]
+
 ghost use Rattle.std.specs.Prelude.{◌≡◌, true};
 ghost use Rattle.digits.specs.Orders.{lent, Columns};
 ghost use Rattle.steps.specs.Step.{setting};

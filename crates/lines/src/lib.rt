@@ -1,5 +1,7 @@
 // The lines that the program prints: document 01's section "The program". Three of a run's answer, or one of a refused file, from the front of a buffer on.
 // The second line is in crate `state_line`.
+#![tactic(auto)]
+
 ghost use Rattle.std.specs.Prelude.{◌+◌, ◌≤◌, length};
 ghost use Rattle.text.specs.Wrote.{Wrote};
 ghost use Rattle.lines.specs.Lines.{counts_line, answer_text, refused_text};

@@ -8,7 +8,7 @@ pub use Rattle.meaning.proofs.Moments.{Sound, Meant, MeantBy, onward_means, mome
 pub use Rattle.meaning.proofs.Products.{product_append, each_append, product_names, each_same}
 pub use Rattle.meaning.proofs.Claims.{natural}
 -- worked cases: numbers and the built-in systems
-pub use Rattle.meaning.proofs.Premise.{◌over◌, R, B, D}
+pub use Rattle.meaning.proofs.Premise.{◌over◌, system_r, system_b, system_d}
 -- the definitions
 unfoldable pub use Rattle.meaning.specs.Names.{named_from, product_of, EachInItsInterval}
 pub use Rattle.meaning.specs.Names.{HeldInItsInterval, held_digits, OfTheAbsorbed}

@@ -19,7 +19,7 @@ use Rattle.meaning.specs.Names.{named_from, product_of, determinants_of, times_a
 use Rattle.meaning.specs.Session.{Session}
 use Rattle.meaning.proofs.Sessions.{newly_opened, called_again, session_product, session_scale, session_named, session_numbers}
 use Rattle.meaning.proofs.Claims.{of_the}
-use Rattle.meaning.proofs.Premise.{◌over◌, R, B, computed, holds_at_1, held_holds}
+use Rattle.meaning.proofs.Premise.{◌over◌, system_r, system_b, computed, holds_at_1, held_holds}
 
 -- ---- the sessions
 
@@ -54,7 +54,7 @@ unfolding stored admission_of rows_verdict row_verdict within? gcd gcd4 gcd_by t
 two_calls = called_again half_way [] (replicate 6 0) (replicate 9 0)
 
 -- P6: B to B, M 1 0 0 1, word 1. The divisors of its two steps 4 and 5 are 1 and 2.
-pub cancelled_word : Session B B (four 1 0 0 1) (done (1 ∷ []) (1 ∷ []) (1 ∷ 2 ∷ [])) (record { matrix = four 1 0 0 1; held = Nothing })
+pub cancelled_word : Session system_b system_b (four 1 0 0 1) (done (1 ∷ []) (1 ∷ []) (1 ∷ 2 ∷ [])) (record { matrix = four 1 0 0 1; held = Nothing })
 unfolding open_of stored rows_in rows_b admission_of rows_verdict row_verdict within? gcd gcd4 gcd_by transformation_by interval_by first unless_refused closed? same? included? determinant_of
     pseudoinverse_of apply multiply_of image_of cancel_of form_of expands? state? fitting_of follow run_by run refusal_of refusal_by judged_run course_of
 cancelled_word = called_again (newly_opened b_admitted b_admitted refl) (1 ∷ []) (replicate 2 0) (replicate 3 0)
@@ -62,8 +62,8 @@ cancelled_word = called_again (newly_opened b_admitted b_admitted refl) (1 ∷ [
 -- ---- the product, in plain numbers
 
 -- the product of the divisors, 1·2, times (G_1-as-X) is 2 2 0 4, since it is det G_1 times (M-as-F_1)
-pub cancelled_scale : (scale_of (pos (times_all (1 ∷ 2 ∷ []))) (multiply_of (product_of B (1 ∷ [])) (four 1 0 0 1)) ≡ four 2 2 0 4) ×
-    (scale_of (determinants_of B (1 ∷ [])) (multiply_of (cancel_of (four 1 0 0 1)) (product_of B (1 ∷ []))) ≡ four 2 2 0 4)
+pub cancelled_scale : (scale_of (pos (times_all (1 ∷ 2 ∷ []))) (multiply_of (product_of system_b (1 ∷ [])) (four 1 0 0 1)) ≡ four 2 2 0 4) ×
+    (scale_of (determinants_of system_b (1 ∷ [])) (multiply_of (cancel_of (four 1 0 0 1)) (product_of system_b (1 ∷ []))) ≡ four 2 2 0 4)
 unfolding scale_of multiply_of product_of determinants_of times_all determinant_of cancel_of gcd4 gcd gcd_by transformation_by interval_by stored rows_in rows_b
 cancelled_scale = (of_the (session_scale cancelled_word) (1 ∷ []) refl, refl)
 
@@ -76,7 +76,7 @@ unfolding multiply_of product_of transformation_by interval_by stored
 half_product = of_the (session_product half_way) (0 ∷ 0 ∷ []) refl
 
 -- the four numbers with the held digit absorbed are no multiple of that
-pub held_not_absorbed : UpToScale (four 4 1 5 2) (multiply_of (four 2 1 1 2) (product_of R (0 ∷ 0 ∷ 1 ∷ []))) → ⊥
+pub held_not_absorbed : UpToScale (four 4 1 5 2) (multiply_of (four 2 1 1 2) (product_of system_r (0 ∷ 0 ∷ 1 ∷ []))) → ⊥
 unfolding multiply_of product_of transformation_by interval_by stored scale_of
 held_not_absorbed u =
     let first : u.p * 4 ≡ u.q * 4 = ap (λ (m : List ℤ). nat_abs (at m 0)) u.equal in

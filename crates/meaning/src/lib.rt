@@ -1,1 +1,3 @@
 // Theorems only: specs/ has what is said of a session, and proofs/ why it holds.
+#![tactic(auto)]
+

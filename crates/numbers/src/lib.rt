@@ -1,5 +1,7 @@
 // How a plug-in writes a system and a state: as plain numbers in slices of its own. Crates `open_call`, `run_call` and `read_call` have the calls, `plugin` the C functions.
 // A system is its count of digits and its 128 numbers, in columns; a state is five numbers, the matrix and the held digit or −1.
+#![tactic(auto)]
+
 ghost use Rattle.std.specs.Prelude.{◌≡◌, ◌++◌, ◌≤◌, length, drop};
 ghost use Rattle.plane.specs.Scale.{entries};
 ghost use Rattle.digits.specs.Orders.{Columns};

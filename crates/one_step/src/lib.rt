@@ -1,4 +1,6 @@
 // One step of the unary algorithm: which of document 01's five lines applies. What each does is in the crate `steps`. For the crate `unary`; nothing here is for plug-ins.
+#![tactic(auto)]
+
 ghost use Rattle.std.specs.Prelude.{◌≡◌, true, List, ℕ, ◌-◌, ◌<◌, drop, pos, ◌<ℤ◌};
 ghost use Rattle.whole.specs.Range.{Within};
 ghost use Rattle.plane.specs.Plane.{determinant_of, image_of};

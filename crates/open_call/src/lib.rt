@@ -1,4 +1,6 @@
 // Opening over lent numbers: what the C function `sled_open` does.
+#![tactic(auto)]
+
 ghost use Rattle.std.specs.Prelude.{◌≡◌};
 ghost use Rattle.numbers.specs.Numbers.{wrote};
 ghost use Rattle.open_call.specs.OpenCall.{open_call_of};

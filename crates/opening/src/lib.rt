@@ -1,11 +1,13 @@
 // Opening a session: document 01's section "The step", refusals 6 and 11. Public: `open` with the types of its answer.
+#![tactic(auto)]
+
 ghost use Rattle.std.specs.Prelude.{◌≡◌};
 ghost use Rattle.opening.specs.Opening.{opening_number, opening_of, open_of};
 
 use states::State;
 
 // What opening answers; `opening_number` gives document 01's number.
-#[derive(Drop)]
+#[derive(Clone, Copy)]
 pub enum Opening {
     Opens,
     OutOfRange,
@@ -24,7 +26,7 @@ pub fn opening_number(v: Opening) -> u8
 }
 
 // An opened session, or the refusal with nothing in the state's place.
-#[derive(Drop)]
+#[derive(Clone, Copy)]
 pub struct Start {
     pub opening: Opening,
     pub state: State,

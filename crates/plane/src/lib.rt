@@ -1,5 +1,7 @@
 // Points, matrices and intervals: document 01's section of that name, on machine words: determinants and pseudoinverses. Products and images are in the crate `products`.
 // Its callers see to it that no determinant leaves 64 bits: an image's ends lie within ±200,000,000,000, and a digit's numbers within ±100.
+#![tactic(auto)]
+
 ghost use Rattle.std.specs.Prelude.{◌≡◌};
 ghost use Rattle.whole.specs.Range.{Within};
 ghost use Rattle.plane.specs.Fits.{Products};

@@ -1,1 +1,1 @@
--- The folders prove the functions of src/lib.rt. What holds of their answers: crates/answers.
+-- The folder proves the function of its name in src/lib.rt; the check proves the others by itself. What holds of their answers: crates/answers.

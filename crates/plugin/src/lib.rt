@@ -1,5 +1,7 @@
-// The library for other languages: C functions over numbers and slices. include/sledhillock.h says what each promises, in a C author's words.
+// The calls for other languages, over numbers and slices. Crate `plugin_c` exports each to C, and include/sledhillock.h says what each promises, in a C author's words.
 // Crate `numbers` has how a system and a state are written; what the calls do is in `columns_call`, `open_call`, `run_call`, `read_call`, `write_call` and, for two words, `two_call`. A slice of the wrong length is refused by 40, and nothing is written.
+#![tactic(auto)]
+
 ghost use Rattle.std.specs.Prelude.{◌≡◌};
 ghost use Rattle.digits.specs.BuiltIn.{stored, rows_r, rows_b, rows_d};
 ghost use Rattle.columns_call.specs.ColumnsCall.{columns_call_of, rows_call};
@@ -15,8 +17,7 @@ ghost use Rattle.plugin.specs.Calls.{admit_number};
 use numbers::WRONG_LENGTH;
 
 // Whether a system is admitted: 0, or the number of the first rule that it breaks.
-#[unsafe(no_mangle)]
-pub extern "C" fn sled_admit(digits: usize, columns: &[i16]) -> u32
+pub fn sled_admit(digits: usize, columns: &[i16]) -> u32
     ensures { result ≡ admit_number (lent_system digits columns.now) }
 {
     if columns.len() != 128 {
@@ -26,56 +27,49 @@ pub extern "C" fn sled_admit(digits: usize, columns: &[i16]) -> u32
 }
 
 // A system's rows, one behind the other, into columns.
-#[unsafe(no_mangle)]
-pub extern "C" fn sled_columns(rows: &[i16], columns: &mut [i16]) -> u32
+pub fn sled_columns(rows: &[i16], columns: &mut [i16]) -> u32
     ensures { wrote result columns.new ≡ columns_call_of rows.now columns.old }
 {
     columns_call::columns(rows, columns)
 }
 
 // And back: the rows of its digits.
-#[unsafe(no_mangle)]
-pub extern "C" fn sled_rows(digits: usize, columns: &[i16], rows: &mut [i16]) -> u32
+pub fn sled_rows(digits: usize, columns: &[i16], rows: &mut [i16]) -> u32
     ensures { wrote result rows.new ≡ rows_call (lent_system digits columns.now) rows.old }
 {
     columns_call::rows(digits, columns, rows)
 }
 
 // The built-in system R: its columns.
-#[unsafe(no_mangle)]
-pub extern "C" fn sled_system_r(columns: &mut [i16]) -> u32
+pub fn sled_system_r(columns: &mut [i16]) -> u32
     ensures { wrote result columns.new ≡ handed_out (stored rows_r) columns.old }
 {
     numbers::hand_out(digits::system_r(), columns)
 }
 
 // The built-in system B: its columns.
-#[unsafe(no_mangle)]
-pub extern "C" fn sled_system_b(columns: &mut [i16]) -> u32
+pub fn sled_system_b(columns: &mut [i16]) -> u32
     ensures { wrote result columns.new ≡ handed_out (stored rows_b) columns.old }
 {
     numbers::hand_out(digits::system_b(), columns)
 }
 
 // The built-in system D: its columns.
-#[unsafe(no_mangle)]
-pub extern "C" fn sled_system_d(columns: &mut [i16]) -> u32
+pub fn sled_system_d(columns: &mut [i16]) -> u32
     ensures { wrote result columns.new ≡ handed_out (stored rows_d) columns.old }
 {
     numbers::hand_out(digits::system_d(), columns)
 }
 
 // Opens a session for a matrix of four numbers: 0, and the state's five numbers are written; or the number of the refusal, and nothing is written.
-#[unsafe(no_mangle)]
-pub extern "C" fn sled_open(matrix: &[i64], state: &mut [i64]) -> u32
+pub fn sled_open(matrix: &[i64], state: &mut [i64]) -> u32
     ensures { wrote result state.new ≡ open_call_of matrix.now state.old }
 {
     open_call::open(matrix, state)
 }
 
 // Runs: takes bytes of the input, writes digits to the output and lists divisors until a step stops. Answers why; the state and the three counts, taken, written and listed, are written back.
-#[unsafe(no_mangle)]
-pub extern "C" fn sled_run(
+pub fn sled_run(
     in_digits: usize,
     in_columns: &[i16],
     out_digits: usize,
@@ -103,8 +97,7 @@ pub extern "C" fn sled_run(
 }
 
 // Reads a job file: 0, and the two systems, the matrix and what else is found are written; or the number of the refusal with its section, and nothing is written.
-#[unsafe(no_mangle)]
-pub extern "C" fn sled_read(
+pub fn sled_read(
     file: &[u8],
     in_columns: &mut [i16],
     out_columns: &mut [i16],
@@ -118,8 +111,7 @@ pub extern "C" fn sled_read(
 }
 
 // Writes a job file: 0, and the file stands at the start of the buffer, with how many bytes it has in `written`; or the number of the refusal with its section, and nothing is written.
-#[unsafe(no_mangle)]
-pub extern "C" fn sled_write(
+pub fn sled_write(
     in_digits: usize,
     in_columns: &[i16],
     out_digits: usize,
@@ -145,32 +137,28 @@ pub extern "C" fn sled_write(
 }
 
 // Opens a session over two words for their sum, x + y: 0, and the state's eleven numbers are written.
-#[unsafe(no_mangle)]
-pub extern "C" fn sled_open_sum(state: &mut [i64]) -> u32
+pub fn sled_open_sum(state: &mut [i64]) -> u32
     ensures { wrote result state.new ≡ two_opened opened_sum state.old }
 {
     two_call::open_sum(state)
 }
 
 // For their difference, x − y.
-#[unsafe(no_mangle)]
-pub extern "C" fn sled_open_difference(state: &mut [i64]) -> u32
+pub fn sled_open_difference(state: &mut [i64]) -> u32
     ensures { wrote result state.new ≡ two_opened opened_difference state.old }
 {
     two_call::open_difference(state)
 }
 
 // For their product, x·y.
-#[unsafe(no_mangle)]
-pub extern "C" fn sled_open_product(state: &mut [i64]) -> u32
+pub fn sled_open_product(state: &mut [i64]) -> u32
     ensures { wrote result state.new ≡ two_opened opened_product state.old }
 {
     two_call::open_product(state)
 }
 
 // Runs over two words: takes bytes of each and writes digits to the output until a step stops. Answers why; the state and the three counts, taken of x, taken of y and written, are written back.
-#[unsafe(no_mangle)]
-pub extern "C" fn sled_run_two(
+pub fn sled_run_two(
     in_digits: usize,
     in_columns: &[i16],
     out_digits: usize,

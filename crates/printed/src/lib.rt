@@ -1,5 +1,7 @@
 // What the program prints: document 01's section "The program". `respond` answers a job file with its text; the programs call it and lend it large enough buffers, plug-ins
 // do not.
+#![tactic(auto)]
+
 ghost use Rattle.std.specs.Prelude.{◌≤◌, length};
 ghost use Rattle.printed.specs.Responds.{Responds};
 

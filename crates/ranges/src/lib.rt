@@ -1,4 +1,6 @@
 // Ranges of four numbers, on machine words: "every number lies in −100..100", "entries in −1000..1000", and a state's within ±1,000,000,000. What it says: crates/whole.
+#![tactic(auto)]
+
 ghost use Rattle.std.specs.Prelude.{◌≡◌, leb, nat_abs};
 ghost use Rattle.whole.specs.Range.{within?};
 

@@ -1,4 +1,6 @@
 // Reading a job file into numbers that a plug-in lends. `sled_read` (crate `plugin`) is this for C.
+#![tactic(auto)]
+
 ghost use Rattle.std.specs.Prelude.{◌≡◌, length};
 ghost use Rattle.read_call.specs.ReadCall.{read_number, found_numbers, after_read, job_numbers, read_call_of};
 

@@ -1,11 +1,11 @@
 -- The same job with unused digits as 0 (`as_read`): it has the same bytes, is judged alike, and keeps the rules exactly where the contents can be written.
-use Rattle.whole.proofs.Laws.{◌≡◌, refl, sym, ap, ap₂, ◌∙◌, subst, List, ◌++◌, ℕ, ◌*◌, ◌≤◌, arith, length, ℤ}
-use Rattle.digits.proofs.Laws.{StoredSystem, system_of, rows_of, columns_of, by_column, lent, as_written, rows_length, rows_again, number_in_rows, same_numbers, same_in_columns}
+use Rattle.whole.proofs.Laws.{◌≡◌, refl, sym, ap, ◌∙◌, subst, ◌++◌, ◌*◌, ◌≤◌, arith}
+use Rattle.digits.proofs.Laws.{StoredSystem, system_of, rows_of, columns_of, by_column, as_written, rows_length, rows_again, number_in_rows, same_numbers, same_in_columns}
 use Rattle.digits.specs.Orders.{by_row}
-use Rattle.admission.proofs.Laws.{Admissible, Admitted, admission_of, refusal_number, same_judgement, admitted_says, admitted_only, SystemCase}
+use Rattle.admission.proofs.Laws.{Admissible, Admitted, admission_of, same_judgement, admitted_says, admitted_only, SystemCase}
 use Rattle.opening.proofs.Laws.{Opens}
 use Rattle.sections.proofs.Laws.{Writable}
-use Rattle.job_sections.proofs.Laws.{Contents, two_bytes, numbers_bytes, system_bytes, matrix_bytes, word_bytes, layout_of, SystemRules, Rules, job, parts_of, system, admitted}
+use Rattle.job_sections.proofs.Laws.{Contents, two_bytes, numbers_bytes, matrix_bytes, word_bytes, layout_of, SystemRules, Rules, job, parts_of, system, admitted}
 use Rattle.job_writing.proofs.Laws.{passed_matrix}
 use Rattle.round_trips.specs.Writes.{cleared, as_read, Handed}
 

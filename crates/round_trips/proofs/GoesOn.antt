@@ -1,5 +1,5 @@
 -- What is left of a session, saved as a job, goes on as the session would: an opened job takes the held digit first, and then stands where the session stood.
-use Rattle.whole.proofs.Laws.{◌≡◌, refl, sym, ap, ◌∙◌, List, ◌∷◌, ◌++◌, ℕ, ◌-◌, ◌<◌, add-one, add-zero, arith, lt-ltb, length, ℤ, Within, written}
+use Rattle.whole.proofs.Laws.{◌≡◌, sym, ap, ◌∙◌, List, ◌∷◌, ◌++◌, ℕ, ◌-◌, ◌<◌, add-one, add-zero, arith, lt-ltb, length, ℤ, Within, written}
 use Rattle.plane.proofs.Laws.{cancel_kept}
 use Rattle.digits.proofs.Laws.{System}
 use Rattle.states.proofs.Laws.{Held, Nothing, Digit, State, opened, loaded, StateRules}

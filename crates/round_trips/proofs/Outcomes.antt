@@ -1,12 +1,12 @@
 -- What writing leaves says something of the contents (`write_says`), and whatever is so is what writing leaves (`said_written`): a file is written, or refused by a number in a
 -- section, exactly when. `written_is_layout`, `writes_only` and `room_enough` are read off.
-use Rattle.whole.proofs.Laws.{◌≡◌, refl, sym, ap, ap₂, ◌∙◌, subst, subst₂, List, ◌↔◌, ℕ, ◌≤◌, ◌<◌, dec_le, arith, length, drop, behind_unchanged, length_written, written}
+use Rattle.whole.proofs.Laws.{◌≡◌, refl, sym, ap, ◌∙◌, subst, subst₂, List, ◌↔◌, ℕ, ◌≤◌, dec_le, arith, length, drop, behind_unchanged, length_written, written}
 use Rattle.sections.proofs.Laws.{writes, refuses_value}
-use Rattle.job_sections.proofs.Laws.{Contents, layout_of, Rules, job, parts_of, layout_size}
+use Rattle.job_sections.proofs.Laws.{Contents, layout_of, Rules}
 use Rattle.job_writing.proofs.Laws.{Writing, Written, NotWritten, Wrote, wrote, written_bytes, judged_of, write_of, Says, judged_says, said_judged, written_not_refused, same_size, judged_leaves, short_leaves, file_leaves}
 use Rattle.jobs.proofs.Laws.{largest}
 use Rattle.round_trips.proofs.AsRead.{same_layout_read, rules_as_read, writes_as_read}
-use Rattle.round_trips.specs.Writes.{Handed, as_read, Unwritable, WriteRefuses, unwritable, too_short, Outcome, saves, refuses}
+use Rattle.round_trips.specs.Writes.{Handed, as_read, WriteRefuses, unwritable, too_short, Outcome, saves, refuses}
 
 -- what a file that was written is
 pub record IsLayout (c : Contents) (buffer : List ℕ) (n : ℕ) : Type 0 where
@@ -29,13 +29,10 @@ module _ (c : Contents) (buffer : List ℕ) where
   judged_file h = said_judged c _ (writes (writes_as_read c h)) ∙ ap (λ (l : List ℕ). Written (length l)) (same_file c h)
 
   pub said_written : (w : Wrote) → Outcome c buffer w → write_of c buffer ≡ w
-  said_written w o = elim o [
-    | saves h room ↦ sym (file_leaves c buffer (judged_file h) room) ∙ ap (λ (l : List ℕ). wrote (Written (length (layout_of (as_read c)))) (written l buffer)) (same_file c h)
-    | refuses {number} {section} r ↦ elim r [
-      | unwritable {number} {section} u ↦ judged_leaves c buffer (said_judged c _ (refuses_value number section u))
-      | too_short h less ↦ sym (short_leaves c buffer (judged_file h) less)
-    ]
-  ]
+  said_written _ (saves h room) =
+      sym (file_leaves c buffer (judged_file h) room) ∙ ap (λ (l : List ℕ). wrote (Written (length (layout_of (as_read c)))) (written l buffer)) (same_file c h)
+  said_written _ (refuses (unwritable {number} {section} u)) = judged_leaves c buffer (said_judged c _ (refuses_value number section u))
+  said_written _ (refuses (too_short h less)) = sym (short_leaves c buffer (judged_file h) less)
 
   -- ---- and what writing leaves is so
 

@@ -1,11 +1,11 @@
 -- "What is written reads back as the same job, unused digits as 0, and a file that reads is written again byte for byte. Refusals: those of the reader for the same contents".
-use Rattle.whole.proofs.Laws.{◌≡◌, refl, sym, ap, ap₂, ◌∙◌, subst, List, ◌++◌, append-nil, ℕ, ◌*◌, ◌≤◌, ◌<◌, arith, length, take, drop, front_written, written, ℤ}
+use Rattle.whole.proofs.Laws.{◌≡◌, refl, sym, ap, ap₂, ◌∙◌, subst, List, ◌++◌, ℕ, ◌≤◌, length, take, front_written, written, ℤ}
 use Rattle.digits.proofs.Laws.{StoredSystem, rows_of, columns_of}
 use Rattle.admission.proofs.Laws.{refusal_number}
-use Rattle.sections.proofs.Laws.{Exact, SaysOf, writes, refuses_value, Counted, Told}
+use Rattle.sections.proofs.Laws.{Exact, writes, refuses_value, Counted, Told}
 use Rattle.job_sections.proofs.Laws.{Contents, Bytes, two_bytes, numbers_bytes, layout_of, Rules, Sixteen, Parts, job, parts_of, contents_of, system, job_lawful}
-use Rattle.job_writing.proofs.Laws.{Writing, Written, NotWritten, Wrote, wrote, judged_of, write_of, Says, judged_says, said_judged, written_not_refused}
-use Rattle.jobs.proofs.Laws.{Job, Reading, Reads, Refused, read_of, reading_of, refused, ReadsAs, reads_exactly, layout_reads, reads_laid, same_layout}
+use Rattle.job_writing.proofs.Laws.{Writing, Written, NotWritten, wrote, judged_of, write_of, Says, judged_says, said_judged, written_not_refused}
+use Rattle.jobs.proofs.Laws.{Reading, Reads, read_of, reading_of, refused, ReadsAs, reads_exactly, layout_reads, reads_laid, same_layout}
 use Rattle.round_trips.specs.Again.{read_contents, read_by}
 use Rattle.round_trips.proofs.AsRead.{same_rows, same_judged, writes_as_read}
 use Rattle.round_trips.proofs.Outcomes.{said_written, written_is_layout}

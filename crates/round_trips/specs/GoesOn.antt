@@ -3,7 +3,7 @@
 use Rattle.std.specs.Prelude.{◌≡◌, List, [], ◌∷◌, ◌++◌, ℕ, ◌+◌, length}
 use Rattle.digits.specs.System.{System}
 use Rattle.states.specs.Types.{Held, Nothing, Digit, State}
-use Rattle.opening.specs.Types.{Start, Opens}
+use Rattle.opening.specs.Types.{Opens}
 use Rattle.states.specs.State.{opened}
 use Rattle.opening.specs.Opening.{open_of}
 use Rattle.unary.specs.Run.{Ran, ran, answered, run_of}

@@ -1,4 +1,6 @@
 // A run, over numbers and bytes that a plug-in lends: what it answers, and what every lent number and byte is afterwards. `sled_run` (crate `plugin`) is this for C.
+#![tactic(auto)]
+
 ghost use Rattle.std.specs.Prelude.{◌≡◌, ◌&&◌, [], ◌∷◌, eqb, length};
 ghost use Rattle.states.specs.State.{end_number};
 ghost use Rattle.numbers.specs.Numbers.{lent_system, state_after};

@@ -33,7 +33,7 @@ module _ {State Stop : Type 0} {m : Machine State Stop} (lawful : Lawful m) wher
   pub granted : {s : State} {r : Supply} {q : Course State Stop} → Runs m s r q → (k : ℕ) → most_steps m s r < k → run_by m k s r ≡ q
   granted g zero h = absurd (omega arith)
   granted {s} {r} (stops e p) (suc k) h = next s r k (halts e) p
-  granted {s} {r} (makes t d p g) (suc k) h = next s r k (goes t d) p ∙ ap (behind d 1) (granted g k (omega (arith, falls s t r d p)))
+  granted {s} {r} (makes t d p g) (suc k) h = next s r k (goes t d) p ∙ ap (behind d 1) (granted {s = t} {r = spend d r} g k (omega (arith, falls s t r d p)))
 
   pub only : {s : State} {r : Supply} {q : Course State Stop} → Runs m s r q → run m s r ≡ q
   unfolding run

@@ -6,20 +6,18 @@ use Rattle.sections.specs.Section.{Limits, size_of, presence, Absent, no_count, 
 module _ {l : Limits} {bytes : List ℕ} where
   pub absent_is : {number : ℕ} → Absent l bytes number → presence l bytes ≡ number
   unfolding presence
-  absent_is a = elim a [
-    | no_count h ↦ rw (lt-ltb (length bytes) 2 h)
-    | too_few h f ↦ rw (le-ltb (length bytes) 2 h, lt-ltb (count_of bytes) l.least f)
-    | too_many h m ↦ elim (dec_le l.least (count_of bytes)) [
-      | yes f ↦ rw (le-ltb (length bytes) 2 h, le-ltb (count_of bytes) l.least f, lt-ltb l.most (count_of bytes) m)
-      | no f ↦ rw (le-ltb (length bytes) 2 h, lt-ltb (count_of bytes) l.least (omega arith))
-    ]
-    | cut_off h f m s ↦ rw (
-      le-ltb (length bytes) 2 h,
-      le-ltb (count_of bytes) l.least f,
-      le-ltb l.most (count_of bytes) m,
-      lt-ltb (length bytes) (size_of l bytes) s,
-    )
+  absent_is (no_count h) = rw (lt-ltb (length bytes) 2 h)
+  absent_is (too_few h f) = rw (le-ltb (length bytes) 2 h, lt-ltb (count_of bytes) l.least f)
+  absent_is (too_many h m) = elim (dec_le l.least (count_of bytes)) [
+    | yes f ↦ rw (le-ltb (length bytes) 2 h, le-ltb (count_of bytes) l.least f, lt-ltb l.most (count_of bytes) m)
+    | no f ↦ rw (le-ltb (length bytes) 2 h, lt-ltb (count_of bytes) l.least (omega arith))
   ]
+  absent_is (cut_off h f m s) = rw (
+    le-ltb (length bytes) 2 h,
+    le-ltb (count_of bytes) l.least f,
+    le-ltb l.most (count_of bytes) m,
+    lt-ltb (length bytes) (size_of l bytes) s,
+  )
 
   pub present_is : Present l bytes → presence l bytes ≡ 0
   unfolding presence
@@ -32,7 +30,10 @@ module _ {l : Limits} {bytes : List ℕ} where
 
   -- a number of refusal is not 0
   pub absent_number : {number : ℕ} → 1 ≤ l.wrong → Absent l bytes number → 1 ≤ number
-  absent_number w a = elim a [ no_count h ↦ omega arith | too_few h f ↦ w | too_many h m ↦ w | cut_off h f m s ↦ omega arith ]
+  absent_number w (no_count h) = omega arith
+  absent_number w (too_few h f) = w
+  absent_number w (too_many h m) = w
+  absent_number w (cut_off h f m s) = omega arith
 
 module _ (l : Limits) (bytes : List ℕ) where
   refused : {number : ℕ} → Absent l bytes number → Present l bytes ⊎ Absent l bytes (presence l bytes)

@@ -1,5 +1,5 @@
 -- Every file of lawful sections is read exactly as its words say, and settled by its first bytes.
-use Rattle.whole.proofs.Laws.{◌≡◌, refl, sym, ap, ◌∙◌, subst, List, [], ◌∷◌, ◌++◌, inl, inr, ℕ, suc, ◌+◌, ◌-◌, ◌≤◌, ◌<◌, mul-le-mul_left, arith, length, take, length-append, unless_refused, passed, decided, eq-zero-or-pos}
+use Rattle.whole.proofs.Laws.{◌≡◌, refl, sym, ap, ◌∙◌, subst, List, [], ◌∷◌, ◌++◌, inl, inr, ℕ, zero, suc, ◌+◌, ◌-◌, ◌≤◌, ◌<◌, mul-le-mul_left, arith, length, take, length-append, unless_refused, passed, decided, eq-zero-or-pos}
 use Rattle.sections.specs.Bytes.{Bytes}
 use Rattle.sections.specs.Section.{size_of, limit, Section, bytes_of, Rules, value_of, number_of, Writable, judged, Lawful as LawfulSection}
 use Rattle.sections.specs.File.{File, bytes_follow, ends, nothing, here, later, value_here, value_later, ◌then◌, Says, reads, refuses, SaysOf, writes, refuses_value, Exact, Lawful}
@@ -20,13 +20,13 @@ module _ {R : Type 0} (answer : Unit {0} → R) (refuse : ℕ → ℕ → R) whe
   follows (b ∷ more) i h = refl
 
   nothing_said : (bytes : List ℕ) (i : ℕ) (r : R) → Says nothing answer refuse bytes i r → ends answer refuse i bytes ≡ r
-  nothing_said bytes i r w = elim w [
-    | reads v k e ↦ ap (ends answer refuse i) e
-    | refuses number section f ↦ elim f [ bytes_follow h ↦ follows bytes i h ]
-  ]
+  nothing_said bytes i _ (reads v k e) = ap (ends answer refuse i) e
+  nothing_said bytes i _ (refuses _ _ (bytes_follow h)) = follows bytes i h
 
   nothing_settled : (bytes : List ℕ) (i m : ℕ) → 1 ≤ m → ends answer refuse i (take m bytes) ≡ ends answer refuse i bytes
+  nothing_settled [] i zero h = elim h [ ]
   nothing_settled [] i (suc m) h = refl
+  nothing_settled (b ∷ more) i zero h = elim h [ ]
   nothing_settled (b ∷ more) i (suc m) h = refl
 
 pub nothing_lawful : Lawful nothing
@@ -36,9 +36,13 @@ nothing_lawful R answer refuse = record {
   settled = nothing_settled answer refuse;
   fits = λ v k. omega arith;
   says_of = λ go v i. writes tt;
-  said_of = λ go v i r w. elim w [ writes k ↦ refl | refuses_value number section u ↦ absurd u ];
+  said_of = said_of;
   read_as_judged = λ v w i t. refl;
 }
+  where
+    said_of : (go : R) (v : Unit {0}) (i : ℕ) (r : R) → SaysOf nothing answer refuse go v i r → go ≡ r
+    said_of go v i _ (writes k) = refl
+    said_of go v i _ (refuses_value number section u) = absurd u
 
 -- ---- a section, and a file behind it
 
@@ -49,10 +53,8 @@ module _ {A B R : Type 0} (s : Section A) (f : File B) (l : LawfulSection s) (an
 
   behind_says : {bytes rest : List ℕ} {v : A} (i : ℕ) → Rules s v → bytes ≡ bytes_of s v ++ rest → (r : R) →
       Says f (λ b. answer (v, b)) refuse rest (suc i) r → Says (s then f) answer refuse bytes i r
-  behind_says {v = v} i k e r w = elim w [
-    | reads b u n ↦ reads (v, b) (k, u) (e ∙ ap (λ (r : List ℕ). bytes_of s v ++ r) n)
-    | refuses number section u ↦ refuses number section (later k e u)
-  ]
+  behind_says {v = v} i k e _ (reads b u n) = reads (v, b) (k, u) (e ∙ ap (λ (r : List ℕ). bytes_of s v ++ r) n)
+  behind_says i k e _ (refuses number section u) = refuses number section (later k e u)
 
   then_says : (bytes : List ℕ) (i : ℕ) → Bytes bytes → Says (s then f) answer refuse bytes i ((s then f).read answer refuse i bytes)
   then_says bytes i h = elim (section_says s l h) [
@@ -68,13 +70,9 @@ module _ {A B R : Type 0} (s : Section A) (f : File B) (l : LawfulSection s) (an
       passed _ _ (present_number s w.present ∙ ap s.number w.value ∙ l.given v 0 k.kept) ∙ (λ j. behind (w.value j) (w.rest j) i)
 
   then_said : (bytes : List ℕ) (i : ℕ) (r : R) → Says (s then f) answer refuse bytes i r → (s then f).read answer refuse i bytes ≡ r
-  then_said bytes i r w = elim w [
-    | reads v k e ↦ peel i k.0 e ∙ (g v.0).said _ (suc i) _ (reads v.1 k.1 refl)
-    | refuses number section u ↦ elim u [
-      | here b ↦ decided _ _ (λ z. omega (arith, breaks_number s l b)) ∙ ap (λ (k : ℕ). refuse k i) (breaks_number s l b).0
-      | later {v} {rest} {number} {section} k e u ↦ peel i k e ∙ (g v).said rest (suc i) _ (refuses number section u)
-    ]
-  ]
+  then_said bytes i _ (reads v k e) = peel i k.0 e ∙ (g v.0).said _ (suc i) _ (reads v.1 k.1 refl)
+  then_said bytes i _ (refuses _ _ (here b)) = decided _ _ (λ z. omega (arith, breaks_number s l b)) ∙ ap (λ (k : ℕ). refuse k i) (breaks_number s l b).0
+  then_said bytes i _ (refuses _ _ (later {v} {rest} {number} {section} k e u)) = peel i k e ∙ (g v).said rest (suc i) _ (refuses number section u)
 
   then_settled : (bytes : List ℕ) (i m : ℕ) → limit s.limits + f.enough ≤ m → (s then f).read answer refuse i (take m bytes) ≡ (s then f).read answer refuse i bytes
   then_settled bytes i m h = or_all m bytes ((s then f).read answer refuse i) (λ more. elim (presence_says s.limits bytes) [
@@ -100,7 +98,8 @@ module _ {A B R : Type 0} (s : Section A) (f : File B) (l : LawfulSection s) (an
 
   value_behind : {v : A × B} (go : R) (i : ℕ) → Writable s v.0 → (r : R) → SaysOf f (λ b. answer (v.0, b)) refuse go v.1 (suc i) r →
       SaysOf (s then f) answer refuse go v i r
-  value_behind go i k r w = elim w [ writes u ↦ writes (k, u) | refuses_value number section u ↦ refuses_value number section (value_later k u) ]
+  value_behind go i k _ (writes u) = writes (k, u)
+  value_behind go i k _ (refuses_value number section u) = refuses_value number section (value_later k u)
 
   then_says_of : (go : R) (v : A × B) (i : ℕ) → SaysOf (s then f) answer refuse go v i ((s then f).judge refuse go i v)
   then_says_of go v i = elim (judged_says s l v.0) [
@@ -109,13 +108,11 @@ module _ {A B R : Type 0} (s : Section A) (f : File B) (l : LawfulSection s) (an
   ]
 
   then_said_of : (go : R) (v : A × B) (i : ℕ) (r : R) → SaysOf (s then f) answer refuse go v i r → (s then f).judge refuse go i v ≡ r
-  then_said_of go v i r w = elim w [
-    | writes k ↦ passed _ _ (writable_judged s l k.0) ∙ (g v.0).said_of go v.1 (suc i) _ (writes k.1)
-    | refuses_value number section u ↦ elim u [
-      | value_here b ↦ let n = unwritable_judged s l b in decided _ _ (λ z. omega (arith, n)) ∙ ap (λ (k : ℕ). refuse k i) n.0
-      | value_later {number} {section} k t ↦ passed _ _ (writable_judged s l k) ∙ (g v.0).said_of go v.1 (suc i) _ (refuses_value number section t)
-    ]
-  ]
+  then_said_of go v i _ (writes k) = passed _ _ (writable_judged s l k.0) ∙ (g v.0).said_of go v.1 (suc i) _ (writes k.1)
+  then_said_of go v i _ (refuses_value _ _ (value_here b)) =
+      let n = unwritable_judged s l b in decided _ _ (λ z. omega (arith, n)) ∙ ap (λ (k : ℕ). refuse k i) n.0
+  then_said_of go v i _ (refuses_value _ _ (value_later {number} {section} k t)) =
+      passed _ _ (writable_judged s l k) ∙ (g v.0).said_of go v.1 (suc i) _ (refuses_value number section t)
 
   then_read_as_judged : (v w : A × B) (i : ℕ) → (s then f).ReadBack v w → (s then f).read answer refuse i ((s then f).layout v) ≡ (s then f).judge refuse (answer w) i v
   then_read_as_judged v w i t =

@@ -13,14 +13,12 @@ module _ {A : Type 0} (s : Section A) (l : Lawful s) where
 
     pub unwritable_judged : {number : ℕ} → Unwritable s v number → (judged s v ≡ number) × (1 ≤ number)
     unfolding judged
-    unwritable_judged u = elim u [
-      | count_low h ↦ (rw (lt-ltb (s.count v) s.limits.least h), l.refused)
-      | count_high h ↦ elim (dec_le s.limits.least (s.count v)) [
-        | yes f ↦ (rw (le-ltb (s.count v) s.limits.least f, lt-ltb s.limits.most (s.count v) h), l.refused)
-        | no f ↦ (rw (lt-ltb (s.count v) s.limits.least (omega arith)), l.refused)
-      ]
-      | contents {number} c g n ↦ (counted_judged c ∙ l.given v number g, n)
+    unwritable_judged (count_low h) = (rw (lt-ltb (s.count v) s.limits.least h), l.refused)
+    unwritable_judged (count_high h) = elim (dec_le s.limits.least (s.count v)) [
+      | yes f ↦ (rw (le-ltb (s.count v) s.limits.least f, lt-ltb s.limits.most (s.count v) h), l.refused)
+      | no f ↦ (rw (lt-ltb (s.count v) s.limits.least (omega arith)), l.refused)
     ]
+    unwritable_judged (contents {number} c g n) = (counted_judged c ∙ l.given v number g, n)
 
     pub writable_judged : Writable s v → judged s v ≡ 0
     writable_judged w = counted_judged w.counted ∙ l.given v 0 w.kept

@@ -47,12 +47,10 @@ module _ {A : Type 0} (s : Section A) (l : Lawful s) where
     absent_decides a = decided _ _ (λ z. omega (arith, absent_number l.refused a, absent_is a)) ∙ absent_is a
 
     pub breaks_number : {number : ℕ} → Breaks s bytes number → (number_of s bytes ≡ number) × (1 ≤ number)
-    breaks_number b = elim b [
-      | absent a ↦ (absent_decides a, absent_number l.refused a)
-      | broken {v} {number} more e h g n ↦
-          let r = subst (λ (x : List ℕ). Begins s x v more) (sym e) (begins v more h) in
-          (present_number s r.present ∙ ap s.number r.value ∙ l.given v number g, n)
-    ]
+    breaks_number (absent a) = (absent_decides a, absent_number l.refused a)
+    breaks_number (broken {v} {number} more e h g n) =
+        let r = subst (λ (x : List ℕ). Begins s x v more) (sym e) (begins v more h) in
+        (present_number s r.present ∙ ap s.number r.value ∙ l.given v number g, n)
 
     whole : Present s.limits bytes → Whole s (count_of bytes) (take (s.limits.unit * count_of bytes) (drop 2 bytes))
     whole p = record { some = p.some; few = p.few; size = length-take-le _ (drop 2 bytes) (omega (arith, p.fits, length-drop 2 bytes)) }
@@ -84,12 +82,10 @@ module _ {A : Type 0} (s : Section A) (l : Lawful s) where
     count = same_count m bytes (omega arith)
 
     pub absent_same : {number : ℕ} → Absent s.limits bytes number → Absent s.limits (take m bytes) number
-    absent_same a = elim a [
-      | no_count k ↦ absurd (omega arith)
-      | too_few k f ↦ too_few (omega (arith, size)) (omega (arith, count))
-      | too_many k f ↦ too_many (omega (arith, size)) (omega (arith, count))
-      | cut_off k f g c ↦ absurd (omega (arith, mul-le-mul_left s.limits.unit g))
-    ]
+    absent_same (no_count k) = absurd (omega arith)
+    absent_same (too_few k f) = too_few (omega (arith, size)) (omega (arith, count))
+    absent_same (too_many k f) = too_many (omega (arith, size)) (omega (arith, count))
+    absent_same (cut_off k f g c) = absurd (omega (arith, mul-le-mul_left s.limits.unit g))
 
     pub present_same : Present s.limits bytes → Begins s (take m bytes) (value_of s bytes) (take (m - size_of s.limits bytes) (drop (size_of s.limits bytes) bytes))
     present_same p =

@@ -2,13 +2,32 @@
 //
 // It reads no more than 4,625 bytes, so that an endless input gets its answer too. They settle every file (the theorem `settled`, crates/jobs/proofs/ReadsExactly.antt): the
 // largest that reads has 4,624 bytes, and of a longer one no more is looked at than that a byte follows the word.
-use libc::{STDIN_FILENO, STDOUT_FILENO};
+#![tactic(auto)]
 
-fn main() {
+ghost use Rattle.std.specs.Io.{ReadsAtMost};
+
+use std::io::{self, Read, Stdin, Write};
+
+// Reads until the buffer is full or the input has ended. Answers how many bytes came.
+fn read_full(stdin: &mut Stdin, buffer: &mut [u8]) -> io::Result<usize>
+    ensures { ReadsAtMost result buffer.new }
+{
+    let mut done = 0;
+    while done < buffer.len() {
+        let n = stdin.read(&mut buffer[done..])?;
+        if n == 0 {
+            break;
+        }
+        done += n;
+    }
+    Ok(done)
+}
+
+fn main(rt: HostRuntime) -> io::Result<()> {
     let mut file = [0u8; 4625];
-    let n = io::read_full(STDIN_FILENO, &mut file);
+    let n = read_full(&mut rt.stdin(), &mut file)?;
     let mut digits = [0u8; 8192];
     let mut out = [0u8; 40000];
     let length = printed::respond(&file[..n], &mut digits, &mut out);
-    io::write_all(STDOUT_FILENO, &out[..length]);
+    rt.stdout().write_all(&out[..length])
 }

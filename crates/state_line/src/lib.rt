@@ -1,4 +1,6 @@
 // The second line that the program prints: "the four entries and the held digit or `-`" (document 01, "The program").
+#![tactic(auto)]
+
 ghost use Rattle.std.specs.Prelude.{[], ◌∷◌, ◌++◌, ◌+◌, ◌≤◌, length};
 ghost use Rattle.text.specs.Wrote.{Wrote};
 ghost use Rattle.state_line.specs.StateLine.{held_text, state_line_of};

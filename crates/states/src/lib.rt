@@ -1,17 +1,19 @@
 // What a session keeps between two calls, and why a run stops: document 01's section "The step", ends 0, 20, 21 and 22, and document 02's end 15.
 // Public: `State`, `Held`, `Stop` and `end_number`. The rest is for our crates above.
+#![tactic(auto)]
+
 ghost use Rattle.std.specs.Prelude.{◌≡◌};
 ghost use Rattle.states.specs.State.{end_number, refused?, held_digit?, held_count, opened as opened_of, loaded as loadedOf, given as given_of, absorbed as absorbedOf};
 
 // A digit that was taken and is not yet absorbed, or none.
-#[derive(Drop)]
+#[derive(Clone, Copy)]
 pub enum Held {
     Nothing,
     Digit(u8),
 }
 
 // What a session keeps between two calls. Only the four functions below build one, and the C boundary.
-#[derive(Drop)]
+#[derive(Clone, Copy)]
 pub struct State {
     pub matrix: [i64; 4],
     pub held: Held,
@@ -77,7 +79,7 @@ pub fn held_count(held: Held) -> usize
 }
 
 // Why a run stopped; `end_number` gives the number.
-#[derive(Drop)]
+#[derive(Clone, Copy)]
 pub enum Stop {
     InputUsed,
     ListFull,

@@ -1,5 +1,7 @@
 // What each line of a step does: document 01's section "The step", its five lines, and the divisors that document 02 lists. Which of them applies is in the crate
 // `one_step`; nothing here is for plug-ins.
+#![tactic(auto)]
+
 ghost use Rattle.std.specs.Prelude.{◌≡◌, cond, List, ℕ, ◌-◌, drop};
 ghost use Rattle.whole.specs.Range.{within?};
 ghost use Rattle.whole.specs.Divisor.{gcd4};
@@ -13,7 +15,7 @@ use cancelling::Cancelled;
 use states::{State, Stop};
 
 // What one step does: where X is cancelled, by which divisor.
-#[derive(Drop)]
+#[derive(Clone, Copy)]
 pub enum Kind {
     Load(u8),
     Give(u8, u64),
@@ -21,7 +23,7 @@ pub enum Kind {
     Halt(Stop),
 }
 
-#[derive(Drop)]
+#[derive(Clone, Copy)]
 pub struct Move {
     pub kind: Kind,
     pub state: State,

@@ -1,5 +1,7 @@
 // Turning and reflecting a digit: document 001's two laws, by which the eight digits of system B follow from one (request T-05). A digit comes and goes as its row of eight numbers.
 // For the crate `digits`; nothing here is for plug-ins.
+#![tactic(auto)]
+
 ghost use Rattle.std.specs.Prelude.{◌≡◌};
 ghost use Rattle.whole.specs.Range.{Within};
 ghost use Rattle.plane.specs.Plane.{Interval, left, right, multiply_of};

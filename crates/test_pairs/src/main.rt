@@ -2,14 +2,18 @@
 // low byte first) and the case: `+`, `-`, `*` or `s` and a state's eleven numbers; the input system and the output system; two words, each behind its length (2 bytes); the room
 // of a first call and more room for a second; and how many bytes of each word the first call gets. It ends between two cases. Three lines are printed: the first call, the second
 // with all that the first did not take, and one call with everything.
-ghost use Rattle.io.specs.Counts.{IsPrefixLen};
+#![tactic(auto)]
+
+ghost use Rattle.std.specs.Prelude.{◌≡◌, ◌≤◌, length, take};
 
 use digits::System;
-use libc::STDOUT_FILENO;
+use std::io;
+use test_input::Input;
+use test_output::Output;
 
 // A state: opened for an operation, or handed in.
-fn begin(state: &mut [i64]) {
-    match test_input::byte() {
+fn begin(input: &mut Input, state: &mut [i64]) {
+    match test_input::byte(input) {
         b'+' => {
             two_call::open_sum(state);
         }
@@ -20,20 +24,22 @@ fn begin(state: &mut [i64]) {
             two_call::open_product(state);
         }
         _ => {
-            test_input::signed_numbers(state);
+            test_input::signed_numbers(input, state);
         }
     }
 }
 
 // As many bytes as two bytes before them say.
-fn word(buffer: &mut [u8]) -> usize
-    ensures { IsPrefixLen result buffer.new }
+fn word(input: &mut Input, buffer: &mut [u8]) -> usize
+    ensures { (result ≤ length buffer.new) × (result ≡ length (take result buffer.new)) }
 {
-    test_input::bytes(buffer, test_input::two() as usize)
+    let n = test_input::two(input) as usize;
+    test_input::bytes(input, buffer, n)
 }
 
 // One call, and its line: end, counts, state, and every byte of the output afterwards.
 fn call(
+    out: &mut Output,
     inputs: System,
     outputs: System,
     state: &mut [i64],
@@ -55,15 +61,16 @@ fn call(
         output,
         counts,
     );
-    io::print_decimal(STDOUT_FILENO, number as u64);
-    test_output::counts(counts);
-    test_output::signed_numbers(state);
-    test_output::bytes(output);
-    test_output::text(b"\n");
+    test_output::decimal(out, number as u64);
+    test_output::counts(out, counts);
+    test_output::signed_numbers(out, state);
+    test_output::bytes(out, output);
+    test_output::text(out, b"\n");
 }
 
 // The same into so much room, of bytes that are 238 before. (No case has more; the test says it again, so that nothing has to be proved here.)
 fn call_with(
+    out: &mut Output,
     inputs: System,
     outputs: System,
     state: &mut [i64],
@@ -77,11 +84,21 @@ fn call_with(
         return;
     }
     let from = 1024 - room;
-    call(inputs, outputs, state, xs, ys, &mut output[from..], counts);
+    call(
+        out,
+        inputs,
+        outputs,
+        state,
+        xs,
+        ys,
+        &mut output[from..],
+        counts,
+    );
 }
 
 // What is not taken of a word behind the first so many bytes. (No call takes more than there are.)
 fn second(
+    out: &mut Output,
     inputs: System,
     outputs: System,
     state: &mut [i64],
@@ -99,6 +116,7 @@ fn second(
         return;
     }
     call_with(
+        out,
         inputs,
         outputs,
         state,
@@ -111,6 +129,7 @@ fn second(
 
 // The first call, with so many bytes of each word, and the second.
 fn in_two(
+    out: &mut Output,
     inputs: System,
     outputs: System,
     state: &mut [i64],
@@ -129,6 +148,7 @@ fn in_two(
         return;
     }
     call_with(
+        out,
         inputs,
         outputs,
         state,
@@ -147,6 +167,7 @@ fn in_two(
         return;
     }
     second(
+        out,
         inputs,
         outputs,
         state,
@@ -159,24 +180,25 @@ fn in_two(
 }
 
 // One case, and whether to go on: no case is as long as is read where the input has ended.
-fn answer_one() -> bool {
-    if 65536 < test_input::four() {
+fn answer_one(input: &mut Input, out: &mut Output) -> bool {
+    if 65536 < test_input::four(input) {
         return false;
     }
     let mut state = [0i64; 11];
-    begin(&mut state);
+    begin(input, &mut state);
     let start = state;
-    let inputs = test_input::system();
-    let outputs = test_input::system();
+    let inputs = test_input::system(input);
+    let outputs = test_input::system(input);
     let mut xs = [0u8; 512];
-    let n = word(&mut xs);
+    let n = word(input, &mut xs);
     let mut ys = [0u8; 512];
-    let m = word(&mut ys);
-    let room = test_input::two() as usize;
-    let more = test_input::two() as usize;
-    let i = test_input::two() as usize;
-    let j = test_input::two() as usize;
+    let m = word(input, &mut ys);
+    let room = test_input::two(input) as usize;
+    let more = test_input::two(input) as usize;
+    let i = test_input::two(input) as usize;
+    let j = test_input::two(input) as usize;
     in_two(
+        out,
         inputs,
         outputs,
         &mut state,
@@ -189,6 +211,7 @@ fn answer_one() -> bool {
     );
     let mut again = start;
     second(
+        out,
         inputs,
         outputs,
         &mut again,
@@ -201,10 +224,14 @@ fn answer_one() -> bool {
     true
 }
 
-// A proved loop has to end, and nothing says that an input does: the turns are counted down from a number that no run uses up.
-fn main() {
-    let mut turns = u64::MAX;
-    while turns > 0 && answer_one() {
-        turns -= 1;
+// A proved loop has to end, and nothing says that an input does: there are as many turns as no run uses up.
+fn main(rt: HostRuntime) -> io::Result<()> {
+    let mut input = Input::new(rt.stdin());
+    let mut out = Output::new(rt.stdout());
+    for _ in 0..u64::MAX {
+        if !answer_one(&mut input, &mut out) {
+            break;
+        }
     }
+    out.finish().and(input.finish())
 }

@@ -1,5 +1,7 @@
 // Text in a buffer, written forward: each function writes from a place `at` on and hands back the place behind what it wrote. Each asks for
 // room and says how much it takes at most.
+#![tactic(auto)]
+
 ghost use Rattle.std.specs.Prelude.{[], ◌∷◌, ◌++◌, map, ◌+◌, ◌*◌, ◌≤◌, length};
 ghost use Rattle.text.specs.Wrote.{Wrote};
 ghost use Rattle.text.specs.Number.{decimal, signed_text};

@@ -1,5 +1,7 @@
 // Runs over two words, over numbers and bytes that a plug-in lends (document 02, T-14): what a call answers, and what every lent number and byte is afterwards. `sled_open_sum`,
 // `sled_open_difference`, `sled_open_product` and `sled_run_two` (crate `plugin`) are these for C. A state is eleven numbers: the eight, the held digits or −1, and the turn.
+#![tactic(auto)]
+
 ghost use Rattle.std.specs.Prelude.{◌≡◌, ◌&&◌, [], ◌∷◌, ◌++◌, eqb, length, drop};
 ghost use Rattle.plane.specs.Scale.{entries};
 ghost use Rattle.states.specs.State.{end_number};

@@ -20,7 +20,7 @@ use Rattle.states.proofs.Laws.{Nothing, Digit, InputUsed}
 use Rattle.judging.proofs.Laws.{refusal_by}
 use Rattle.two_states.proofs.Laws.{OfY, opened_two, two_state?}
 use Rattle.binary.proofs.Laws.{two_refusal, two_course, answered, two_ran, two_run}
-use Rattle.meaning.proofs.Laws.{◌over◌, R, B, D, named_from, product_of, of_the}
+use Rattle.meaning.proofs.Laws.{◌over◌, system_r, system_b, system_d, named_from, product_of, of_the}
 use Rattle.two_meaning.specs.TwoSession.{adding, TwoSession, UpToScaleForm, TwoNamed}
 use Rattle.two_meaning.proofs.TwoSessions.{session_two_product, session_two_named, newly_opened_two, called_again_two}
 
@@ -71,30 +71,30 @@ difference_state = form (four (pos 0) (pos 1) (minus 1) (pos 1)) (four (pos 2073
 
 pub record WorkedPairs : Type 0 where
   -- 1/2 + 1/3 = 5/6 on D
-  pub sum : Ends D sum_form half (third ++ 0 ∷ []) five_sixths 10 8 sum_state 0
-  pub sum_names : Names D sum_form half third five_sixths sum_state (pos 0 over pos 1) (minus 1 over pos 3) (pos 1 over pos 2) (pos 1 over pos 3) (pos 5 over pos 6)
+  pub sum : Ends system_d sum_form half (third ++ 0 ∷ []) five_sixths 10 8 sum_state 0
+  pub sum_names : Names system_d sum_form half third five_sixths sum_state (pos 0 over pos 1) (minus 1 over pos 3) (pos 1 over pos 2) (pos 1 over pos 3) (pos 5 over pos 6)
   -- 3·3 = 9 on B
-  pub product : Ends B product_form (3 ∷ 2 ∷ []) (3 ∷ 2 ∷ []) (3 ∷ 2 ∷ 4 ∷ []) 2 3 product_state 2
-  pub product_names : Names B product_form (3 ∷ 2 ∷ []) (3 ∷ []) (3 ∷ 2 ∷ 4 ∷ []) product_state (pos 1 over pos 1) (pos 1 over pos 1) (pos 3 over pos 1) (pos 3 over pos 1) (pos 9 over pos 1)
+  pub product : Ends system_b product_form (3 ∷ 2 ∷ []) (3 ∷ 2 ∷ []) (3 ∷ 2 ∷ 4 ∷ []) 2 3 product_state 2
+  pub product_names : Names system_b product_form (3 ∷ 2 ∷ []) (3 ∷ []) (3 ∷ 2 ∷ 4 ∷ []) product_state (pos 1 over pos 1) (pos 1 over pos 1) (pos 3 over pos 1) (pos 3 over pos 1) (pos 9 over pos 1)
   -- x − x = 0 on R, of which no digit is given out
-  pub difference : Ends R difference_form (eleven ++ 1 ∷ []) (eleven ++ 1 ∷ []) [] 12 0 difference_state 1
-  pub difference_names : Names R difference_form (eleven ++ 1 ∷ []) eleven [] difference_state (pos 1 over pos 1) (pos 2 over pos 1) (pos 233 over pos 377) (pos 233 over pos 377) (pos 0 over pos 1)
+  pub difference : Ends system_r difference_form (eleven ++ 1 ∷ []) (eleven ++ 1 ∷ []) [] 12 0 difference_state 1
+  pub difference_names : Names system_r difference_form (eleven ++ 1 ∷ []) eleven [] difference_state (pos 1 over pos 1) (pos 2 over pos 1) (pos 233 over pos 377) (pos 233 over pos 377) (pos 0 over pos 1)
 
 -- ---- the runs
 
-sum_ends : Ends D sum_form half (third ++ 0 ∷ []) five_sixths 10 8 sum_state 0
+sum_ends : Ends system_d sum_form half (third ++ 0 ∷ []) five_sixths 10 8 sum_state 0
 unfolding stored admission_of rows_verdict row_verdict within? gcd gcd4 gcd_by transformation_by interval_by first unless_refused closed? same? included? determinant_of
     pseudoinverse_of apply multiply_of image_of cancel_of form_of expands? follow run_by run judged_run on_two apply_two into_x into_y times_form gcd8 cancel_form images_of all_coefficients
     may_give? giving_of two_state? two_refusal refusal_by two_course two_run
 sum_ends = refl
 
-product_ends : Ends B product_form (3 ∷ 2 ∷ []) (3 ∷ 2 ∷ []) (3 ∷ 2 ∷ 4 ∷ []) 2 3 product_state 2
+product_ends : Ends system_b product_form (3 ∷ 2 ∷ []) (3 ∷ 2 ∷ []) (3 ∷ 2 ∷ 4 ∷ []) 2 3 product_state 2
 unfolding stored rows_in rows_b admission_of rows_verdict row_verdict within? gcd gcd4 gcd_by transformation_by interval_by first unless_refused closed? same? included? determinant_of
     pseudoinverse_of apply multiply_of image_of cancel_of form_of expands? follow run_by run judged_run on_two apply_two into_x into_y times_form gcd8 cancel_form images_of all_coefficients
     may_give? giving_of two_state? two_refusal refusal_by two_course two_run
 product_ends = refl
 
-difference_ends : Ends R difference_form (eleven ++ 1 ∷ []) (eleven ++ 1 ∷ []) [] 12 0 difference_state 1
+difference_ends : Ends system_r difference_form (eleven ++ 1 ∷ []) (eleven ++ 1 ∷ []) [] 12 0 difference_state 1
 unfolding stored admission_of rows_verdict row_verdict within? gcd gcd4 gcd_by transformation_by interval_by first unless_refused closed? same? included? determinant_of
     pseudoinverse_of apply multiply_of image_of cancel_of form_of expands? follow run_by run judged_run on_two apply_two into_x into_y times_form gcd8 cancel_form images_of all_coefficients
     may_give? giving_of two_state? two_refusal refusal_by two_course two_run
@@ -106,7 +106,7 @@ difference_ends = refl
 times : (n : ℕ) {x y : Pair} → 0 < n → scale_pair (pos 1) x ≡ scale_pair (pos n) y → SamePoint x y
 times n above e = same_point (pos 1) (pos n) (above_not_0 (up< (omega arith))) (above_not_0 (up< above)) e
 
-sum_numbers : Names D sum_form half third five_sixths sum_state (pos 0 over pos 1) (minus 1 over pos 3) (pos 1 over pos 2) (pos 1 over pos 3) (pos 5 over pos 6)
+sum_numbers : Names system_d sum_form half third five_sixths sum_state (pos 0 over pos 1) (minus 1 over pos 3) (pos 1 over pos 2) (pos 1 over pos 3) (pos 5 over pos 6)
 unfolding named_from apply transformation_by interval_by stored apply_two on_two scale_pair
 sum_numbers = record {
   first_number = times 512 (omega arith) refl;
@@ -115,7 +115,7 @@ sum_numbers = record {
   given_number = times 512 (omega arith) refl;
 }
 
-product_numbers : Names B product_form (3 ∷ 2 ∷ []) (3 ∷ []) (3 ∷ 2 ∷ 4 ∷ []) product_state (pos 1 over pos 1) (pos 1 over pos 1) (pos 3 over pos 1) (pos 3 over pos 1) (pos 9 over pos 1)
+product_numbers : Names system_b product_form (3 ∷ 2 ∷ []) (3 ∷ []) (3 ∷ 2 ∷ 4 ∷ []) product_state (pos 1 over pos 1) (pos 1 over pos 1) (pos 3 over pos 1) (pos 3 over pos 1) (pos 9 over pos 1)
 unfolding named_from apply transformation_by interval_by stored rows_in rows_b gcd gcd_by gcd4 multiply_of pseudoinverse_of image_of cancel_of apply_two on_two scale_pair
 product_numbers = record {
   first_number = times 2 (omega arith) refl;
@@ -124,7 +124,7 @@ product_numbers = record {
   given_number = times 4 (omega arith) refl;
 }
 
-difference_numbers : Names R difference_form (eleven ++ 1 ∷ []) eleven [] difference_state (pos 1 over pos 1) (pos 2 over pos 1) (pos 233 over pos 377) (pos 233 over pos 377) (pos 0 over pos 1)
+difference_numbers : Names system_r difference_form (eleven ++ 1 ∷ []) eleven [] difference_state (pos 1 over pos 1) (pos 2 over pos 1) (pos 233 over pos 377) (pos 233 over pos 377) (pos 0 over pos 1)
 unfolding named_from apply transformation_by interval_by stored apply_two on_two scale_pair
 difference_numbers = record {
   first_number = times 1 (omega arith) refl;
@@ -145,7 +145,7 @@ worked_pairs = record {
 
 -- ---- what the theorems on sessions say of the sum
 
-pub sum_session : TwoSession D D sum_form (record { x = half; y = third ++ 0 ∷ []; digits = five_sixths; divisors = [] }) (record { form = sum_state; x = Nothing; y = Digit 0; turn = OfY })
+pub sum_session : TwoSession system_d system_d sum_form (record { x = half; y = third ++ 0 ∷ []; digits = five_sixths; divisors = [] }) (record { form = sum_state; x = Nothing; y = Digit 0; turn = OfY })
 unfolding stored admission_of rows_verdict row_verdict within? gcd gcd4 gcd_by transformation_by interval_by first unless_refused closed? same? included? determinant_of
     pseudoinverse_of apply multiply_of image_of cancel_of form_of expands? follow run_by run judged_run on_two apply_two into_x into_y times_form gcd8 cancel_form images_of all_coefficients
     may_give? giving_of two_state? two_refusal refusal_by two_course
@@ -158,7 +158,7 @@ unfolding product_of multiply_of into_x into_y times_form transformation_by inte
 sum_product = of_the (of_the (session_two_product sum_session) half refl) third refl
 
 -- "Absorbed, not taken": with the held digit of y counted in, the eight numbers are others
-pub held_not_absorbed : UpToScaleForm (form (four (pos 0) (pos 1) (pos 2) (pos 854)) (four (pos 0) (pos 0) (pos 0) (pos 1024))) (into_y (into_x sum_form (product_of D half)) (product_of D (third ++ 0 ∷ []))) → ⊥
+pub held_not_absorbed : UpToScaleForm (form (four (pos 0) (pos 1) (pos 2) (pos 854)) (four (pos 0) (pos 0) (pos 0) (pos 1024))) (into_y (into_x sum_form (product_of system_d half)) (product_of system_d (third ++ 0 ∷ []))) → ⊥
 unfolding product_of multiply_of into_x into_y transformation_by interval_by stored scale_of
 held_not_absorbed u =
     let first-x : u.p * 1 ≡ u.q * 1024 = ap (λ (m : Form). nat_abs (at m.numerator 1)) u.equal in
@@ -167,7 +167,7 @@ held_not_absorbed u =
     absurd (omega arith)
 
 -- the image of the rests 0/1 and −1/3 is a point, 4/12, and in front of it the output names the sum of the two numbers
-pub sum_named : TwoNamed D D sum_form half third five_sixths (record { form = sum_state; x = Nothing; y = Digit 0; turn = OfY }) (pos 0 over pos 1) (minus 1 over pos 3)
+pub sum_named : TwoNamed system_d system_d sum_form half third five_sixths (record { form = sum_state; x = Nothing; y = Digit 0; turn = OfY }) (pos 0 over pos 1) (minus 1 over pos 3)
 unfolding named_from apply transformation_by interval_by stored apply_two on_two
 sum_named = of_the (of_the (session_two_named sum_session) half refl) third refl (pos 0 over pos 1) (minus 1 over pos 3) fraction fraction fraction
   where

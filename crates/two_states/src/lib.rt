@@ -1,5 +1,7 @@
 // What a session over two words keeps between two calls (document 02, T-14). Public: `TwoState`, `Turn`, and the openings `open_sum`, `open_difference` and `open_product`.
 // The rest is for our crates above.
+#![tactic(auto)]
+
 ghost use Rattle.std.specs.Prelude.{◌≡◌};
 ghost use Rattle.bilinear.specs.Form.{over_one};
 ghost use Rattle.two_states.specs.TwoState.{opened_two, opened_sum, opened_difference, opened_product, loaded_x, loaded_y, given_two, absorbed_x, absorbed_y, two_state?};
@@ -8,14 +10,14 @@ use bilinear::Form;
 use states::Held;
 
 // Whose digit is absorbed next, where none can be given out.
-#[derive(Drop)]
+#[derive(Clone, Copy)]
 pub enum Turn {
     OfX,
     OfY,
 }
 
 // The eight numbers, a held digit of each word or none, and whose turn it is.
-#[derive(Drop)]
+#[derive(Clone, Copy)]
 pub struct TwoState {
     pub form: Form,
     pub x: Held,

@@ -1,4 +1,6 @@
 // One step of a run over two words (document 02, T-14): which of its lines applies, and what each does. For the crate `binary`; nothing here is for plug-ins.
+#![tactic(auto)]
+
 ghost use Rattle.std.specs.Prelude.{◌≡◌, List, ℕ, ◌-◌, drop};
 ghost use Rattle.digits.specs.Orders.{lent, Columns};
 ghost use Rattle.fitting.specs.FirstFit.{fits};
@@ -16,7 +18,7 @@ use states::{Held, Stop};
 use two_states::{Turn, TwoState};
 
 // The next byte of a word: none is left, it is no digit, or it is a digit.
-#[derive(Drop)]
+#[derive(Clone, Copy)]
 pub enum Next {
     Used,
     Other,
@@ -24,7 +26,7 @@ pub enum Next {
 }
 
 // What one step does.
-#[derive(Drop)]
+#[derive(Clone, Copy)]
 pub enum Kind {
     LoadX(u8),
     LoadY(u8),
@@ -33,14 +35,14 @@ pub enum Kind {
     Halt(Stop),
 }
 
-#[derive(Drop)]
+#[derive(Clone, Copy)]
 pub struct Move {
     pub kind: Kind,
     pub state: TwoState,
 }
 
 // The eight numbers that a step makes with the transformation of a digit, before they are cancelled, and the determinant of that: what is cancelled divides it.
-#[derive(Drop)]
+#[derive(Clone, Copy)]
 pub struct Product {
     pub form: Form,
     pub determinant: u64,

@@ -1,5 +1,7 @@
 // The unary algorithm: document 01's section "The step". `run` (opening: crates/opening; what is judged before any step: crates/judging; one step: crates/one_step, over the lines of crates/steps).
 // Public: `run` with the type of its answer. The rest is what our other crates call.
+#![tactic(auto)]
+
 ghost use Rattle.std.specs.Prelude.{◌≡◌, ◌+◌, ◌-◌, ◌<◌, ◌≤◌};
 ghost use Rattle.digits.specs.Orders.{lent, Columns, system_of};
 ghost use Rattle.states.specs.State.{held_count};
@@ -12,16 +14,16 @@ use states::{Held, State, Stop};
 use steps::Kind;
 
 // The counts, kept apart: the source's input pointer and its output pointer, and how many divisors are listed.
-#[derive(Drop)]
+#[derive(Clone, Copy)]
 pub struct Taken(pub usize);
 
-#[derive(Drop)]
+#[derive(Clone, Copy)]
 pub struct Written(pub usize);
 
-#[derive(Drop)]
+#[derive(Clone, Copy)]
 pub struct Listed(pub usize);
 
-#[derive(Drop)]
+#[derive(Clone, Copy)]
 pub struct Answer {
     pub stop: Stop,
     pub taken: Taken,

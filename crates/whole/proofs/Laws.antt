@@ -38,7 +38,7 @@ pub use Rattle.whole.proofs.Base.{add-zero, ap, append_assoc, append-nil, ap₂,
 pub use Rattle.whole.proofs.Base.{drop-drop, drop_of_length-le, eq-eqb, eq-zero-or-pos, eqb, eqb-true, eqb→eq, false, false≢true, get_or, get_or-take, inl, inr, le-leb}
 pub use Rattle.whole.proofs.Base.{le-ltb, le_refl, le_trans, le_z, le_z_yes, leb, leb→le, length, length-append, length-drop, length-set, length-take-le, le→leb, lt-leb}
 pub use Rattle.whole.proofs.Base.{lt-ltb, lt_of_le_of_lt, lt_z, lt_z_no, lt_z_yes, ltb, ltb-true, ltb→lt, lt→ltb, mag, map, mod-add-div, mul-le-mul, mul-le-mul_left}
-pub use Rattle.whole.proofs.Base.{nat_abs, ne_eqb, needs, negsuc, neg_ℤ, none, not, not-false, not-true, now, one-dvd, pos, quot_z, refl, replicate, set, sets, some}
+pub use Rattle.whole.proofs.Base.{nat_abs, ne_eqb, negsuc, neg_ℤ, none, not, not-false, not-true, one-dvd, pos, quot_z, refl, replicate, set, sets, some}
 pub use Rattle.whole.proofs.Base.{subst, subst₂, suc, sym, take, take-add, take_all, take-append-drop, take-append_seam, take_at, take-suc, true, true≢false, zero}
 pub use Rattle.whole.proofs.Base.{zero-*ℤ, zero-le, ℕ, ℕ_discrete, ℤ}
 -- the definitions

@@ -25,14 +25,14 @@ pub near_fits : {w : Width} {b : ℕ} {z : ℤ} → Near b z → T (ltb b (2 ^ h
 near_fits {w} {b} {z} h t = record { sfits = lt_of_le_of_lt (mag_le z) (lt_of_le_of_lt h.near (ltb→lt b (2 ^ hbits w) t)) }
 
 pub back : {b : ℕ} {z : ℤ} → Near b z → T (ltb b (2 ^ 63)) → to_z w64 (of_z w64 z) ≡ z
-back h t = to_z-of_z (near_fits h t)
+back h t = to_z-of_z {w = w64} (near_fits h t)
 
 pub near_back : {b : ℕ} {z : ℤ} → Near b z → T (ltb b (2 ^ 63)) → Near b (to_z w64 (of_z w64 z))
 near_back {b} h t = subst (Near b) (sym (back h t)) h
 
 -- the same of a call's result, where the check hands out `.ok`; the second form has the number written, for `cc` and `simp`
 pub ok_back : {z : ℤ} → mag z < 2 ^ 63 → to_z w64 (of_z w64 z) ≡ z
-ok_back h = to_z-of_z (record { sfits = h })
+ok_back h = to_z-of_z {w = w64} (record { sfits = h })
 
 pub back_of_lem : (z : ℤ) → mag z < 2 ^ 63 → to_z w64 (of_z w64 z) ≡ z
 back_of_lem z h = ok_back h
@@ -60,17 +60,17 @@ cast_back f g = to_z-of_z (cast_fits f g) ∙ to_z-of_z f
 
 -- i16 to i64: always
 pub widen_fits : {z : ℤ} → SFits w16 z → SFits w64 (to_z w16 (of_z w16 z))
-widen_fits f = cast_fits f (sfits_widen tt f)
+widen_fits f = cast_fits {w' = w64} f (sfits_widen {w = w16} {w' = w64} tt f)
 
 pub widen_back : {z : ℤ} → SFits w16 z → to_z w64 (of_z w64 (to_z w16 (of_z w16 z))) ≡ z
-widen_back f = cast_back f (sfits_widen tt f)
+widen_back f = cast_back {w' = w64} f (sfits_widen {w = w16} {w' = w64} tt f)
 
 -- i64 to i16: of a number that an i16 holds
 pub narrow_fits : {z : ℤ} → SFits w16 z → SFits w16 (to_z w64 (of_z w64 z))
-narrow_fits f = cast_fits (sfits_widen tt f) f
+narrow_fits f = cast_fits {w = w64} (sfits_widen {w = w16} {w' = w64} tt f) f
 
 pub narrow_back : {z : ℤ} → SFits w16 z → to_z w16 (of_z w16 (to_z w64 (of_z w64 z))) ≡ z
-narrow_back f = cast_back (sfits_widen tt f) f
+narrow_back f = cast_back {w = w64} (sfits_widen {w = w16} {w' = w64} tt f) f
 
 -- an element of a slice, of which the check hands out the bound as `.given`
 pub element_16 : (z : ℤ) → mag z < 2 ^ 15 → SFits w16 z

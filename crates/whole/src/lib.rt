@@ -1,5 +1,7 @@
 // Whole numbers: the three functions on machine words that the crates above build on.
 // The rest of this crate is mathematics: see proofs/Lib.antt for a map.
+#![tactic(auto)]
+
 ghost use Rattle.std.specs.Prelude.{◌≡◌, pos, nat_abs};
 ghost use Rattle.std.specs.Int.Signed.{quot_z};
 ghost use Rattle.whole.specs.Divisor as D;

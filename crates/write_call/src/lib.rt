@@ -1,4 +1,6 @@
 // Writing a job file from numbers that a plug-in lends: what it answers, and what every lent number and byte is afterwards. `sled_write` (crate `plugin`) is this for C.
+#![tactic(auto)]
+
 ghost use Rattle.std.specs.Prelude.{◌≡◌, ◌&&◌, eqb, length};
 ghost use Rattle.numbers.specs.Numbers.{lent_system};
 ghost use Rattle.write_call.specs.WriteCall.{after_write, answer_number, written_after, write_call_of};

@@ -1,5 +1,7 @@
 // The sections of a job file, written: document 02's T-01. Each is written into the front of the buffer that is lent, which is the rest of a larger one, and answers how many bytes it filled. The bytes behind
 // them stay. For the crate `jobs`; nothing here is for plug-ins.
+#![tactic(auto)]
+
 ghost use Rattle.std.specs.Prelude.{◌≡◌, ◌+◌, ◌*◌, ◌/◌, ◌%◌, ◌<◌, ◌≤◌, length, set};
 ghost use Rattle.whole.specs.Written.{written};
 ghost use Rattle.digits.specs.Orders.{Columns, lent_system, rows_in};

@@ -1,0 +1,16 @@
+-- `admission::admission_of` meets its contract: "3: a system has 0 or more than 16 digits", and the rows after that.
+use Rattle.whole.proofs.Laws.{◌∙◌, inl, inr, arith}
+use Rattle.admission.proofs.AdmittedSays.{wrong_count, counted}
+use Rattle.admission.proofs.admission_of.Goals as goal
+
+pub returns-then-count-eq0 : goal.returns-then-count-eq0
+returns-then-count-eq0 c = wrong_count _ (inl c.if-count-eq0.true)
+
+pub returns-then-count-gt16 : goal.returns-then-count-gt16
+returns-then-count-gt16 c = wrong_count _ (inr c.if-count-gt16.true)
+
+pub rows_verdict-requires : goal.rows_verdict-requires
+rows_verdict-requires c = (c.requires, omega arith)
+
+pub returns : goal.returns
+returns c = c.rows_verdict.ensures ∙ counted _ (omega arith) (omega arith)

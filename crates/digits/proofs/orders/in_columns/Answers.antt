@@ -1,0 +1,22 @@
+-- `digits::orders::in_columns` meets its contract. The invariant: the first p numbers of the columns are written.
+use Rattle.whole.proofs.Laws.{sym, ap, ◌∙◌, ◌-◌, ◌≤◌, arith, at, element_16, Copied, copy_none, copy_one, copied}
+use mir.Facts.{to_z-of_z}
+use Rattle.digits.specs.Orders.{columns_of}
+use Rattle.digits.proofs.Places.{columns_length, columns_at}
+use Rattle.std.proofs.Common.{rules}
+use Rattle.digits.proofs.orders.in_columns.Goals as goal
+
+pub loop-p-preserved : goal.loop-p-preserved
+loop-p-preserved c =
+    let l = c.loop-p in
+    let rows = c.args.rows.now in
+    let number = to_z-of_z (element_16 _ c.number_or_0.type_inv) ∙ c.number_or_0.ensures ∙ ap (at rows) c.row_place.ensures in
+    (search rules, copy_one l.invariant.1 (search rules) (omega (arith, columns_length rows)) (number ∙ sym (columns_at rows l.p (omega arith))))
+
+pub returns : goal.returns
+returns c =
+    let s = c.before.before in
+    copied c.loop-p.invariant.1 (omega (arith, s.requires.size)) (columns_length s.args.rows.now ∙ sym s.requires.size)
+
+pub loop-p-init : goal.loop-p-init
+loop-p-init c = (search rules, copy_none)

@@ -1,0 +1,11 @@
+-- `written_sections::put_row` meets its contract. The invariant: the first j numbers of the row are written.
+use Rattle.whole.proofs.Laws.{◌-◌, ◌≤◌}
+use Rattle.written_sections.specs.Filled.{row_of}
+use Rattle.written_sections.proofs.Numbers.{Begun}
+use Rattle.written_sections.proofs.put_row.Given as goal
+
+abbrev pub invariant-loop-j : goal.invariant-loop-j
+invariant-loop-j l = (l.j ≤ 8) × Begun (row_of l.columns l.a) l.initial.out l.j l.out
+
+abbrev pub decreases-loop-j : goal.decreases-loop-j
+decreases-loop-j l = 8 - l.j
