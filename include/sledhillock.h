@@ -158,7 +158,7 @@ enum sled_number {
     SLED_REFUSED_SHORT = 1,     /* read: the file ends before a count or a section is whole */
     SLED_REFUSED_LONG = 2,      /* read: bytes follow the word */
     SLED_REFUSED_FOUR = 4,      /* read: the matrix count is not 4 */
-    SLED_REFUSED_WORD = 5,      /* the word has more than 4096 digits */
+    SLED_REFUSED_WORD = 5,      /* the word count is above 4096; to be written: the word has more than 4096 digits */
     SLED_REFUSED_BUFFER = 14,   /* to be written: the buffer is too short for the file */
 
     /* a refusal of any call, before all others */

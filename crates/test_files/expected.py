@@ -5,8 +5,7 @@
                                            printed) beside this file
   crates/test_files/expected.py --check    says whether the two files are what it would write
 
-A file that reads prints a fourth line, of a second run with that list: end, digits taken, digits written, numbers listed, and the numbers; and a fifth, of the job that was
-read, written again: it is not refused (0), and so many bytes are written, which are all the file's.
+A file that reads prints a fourth line, of a second run with that list: end, digits taken, digits written, numbers listed, and the numbers.
 """
 import os, struct, sys
 
@@ -60,8 +59,7 @@ def changed(row, place, value):
 
 def reads(file, text, *lists):
     """A case for each list: its number of places, the end and the three counts with it, and the numbers listed."""
-    again = f'0 {len(file)} {len(file)}'
-    return [(file, '\n'.join([text, ' '.join([counts] + [str(n) for n in numbers]), again]), places) for places, counts, numbers in lists]
+    return [(file, text + '\n' + ' '.join([counts] + [str(n) for n in numbers]), places) for places, counts, numbers in lists]
 
 
 whole = job()

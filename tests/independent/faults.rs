@@ -145,8 +145,7 @@ pub const FAULTS: [Named; 37] = [
     (Fault::FourDigitsAreR, "four-digits-are-r", "the intervals of R are searched in every output system of four digits"),
 ];
 
-/// The faults of the file that is written (T-01), which the comparison of job files has to find, where each that reads is written again, and that of
-/// cases of writing too.
+/// The faults of the file that is written (T-01), which the comparison of cases of writing has to find.
 pub const WRITTEN_FAULTS: [Named; 10] = [
     (Fault::WriteAtStart, "write-at-start", "each section is written at the start of the buffer"),
     (Fault::WriteUnusedRow, "write-unused-row", "behind the rows of the output system one more is written"),

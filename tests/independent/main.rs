@@ -45,16 +45,16 @@ mod writing_test;
 use std::io::{stdin, stdout, BufWriter, Read, Write};
 
 use case_commands::{of_sort, print_faults, print_kinds, PAIRS, WRITING};
-use faults::{FAULTS, WRITTEN_FAULTS};
+use faults::FAULTS;
 use kinds::kind_of;
 
 const USAGE: &str = "usage: independent COMMAND [--fault NAME]
   one              read one job file, print what the program prints for it
   many             read many job files, each after its length in 4 bytes and before the number of places in its list in 2 bytes, low byte first;
-                   print the same for each, and for one that reads a fourth line: with that list, end, taken, written, listed, the numbers listed;
-                   and a fifth: written again, number of the refusal or 0, bytes written, how many of the buffer's first bytes are the file's
-  list PLACES      read one job file, print that fourth line for a list of so many places
-  again            read one job file, print that fifth line
+                   print the same for each, and for one that reads a fourth line: with that list, end, taken, written, listed, the numbers listed
+  list PLACES      read one job file, print that line for a list of so many places
+  again            read one job file, write it again where it reads, print: number of the refusal or 0, bytes written, how many of the buffer's first
+                   bytes are the file's
   draw SEED COUNT [FIRST]  write that many cases in the form that `many` reads, from case FIRST on, or from 1
   case SEED N      write the job file of case N, the first being 1
   places SEED N    print how many places its list has
@@ -99,7 +99,7 @@ fn main() {
         ["kinds"] => print_kinds(&draw_jobs::KINDS),
         ["show"] => print(show::readable(&input()).as_bytes()),
         ["trace"] => print(trace::table(&input()).as_bytes()),
-        ["faults"] => print_faults(&[&FAULTS, &WRITTEN_FAULTS]),
+        ["faults"] => print_faults(&[&FAULTS]),
         ["self-test"] => self_test::all(),
         _ => of_cases(&words),
     }
@@ -150,7 +150,6 @@ fn answer_many(mut jobs: &[u8]) {
         let places = take(&mut jobs, 2);
         write(&mut out, running::printed(job).as_bytes());
         write(&mut out, running::printed_list(job, places[0] as usize + 256 * places[1] as usize).as_bytes());
-        write(&mut out, writing_cases::printed_again(job).as_bytes());
     }
     flush(out);
 }

@@ -55,7 +55,7 @@ pub fn printed(case: &WritingCase) -> String {
     format!("{number} {section} {written} |{bytes}\n")
 }
 
-/// The line that `many` prints besides, where the file reads: the job is written again, into a buffer as long as the file. The number of the refusal or
+/// The line that `again` prints, where the file reads: the job is written again, into a buffer as long as the file. The number of the refusal or
 /// 0, how many bytes were written, and how many of the buffer, from the first one on, are the file's.
 pub fn printed_again(file: &[u8]) -> String {
     let Ok(job) = reading::read(file) else { return String::new() };

@@ -89,7 +89,7 @@ unwritten_in_range buffer number section g = record { answer = g; room = refl; u
 
 module _ (c : Contents) (buffer : List ℕ) (four : length c.matrix ≡ 4) where
   -- what passes the judgement has counts in their ranges, and so has its file
-  passed_in_range : job.Writes (parts_of c) → judged_of c ≡ Written (length (layout_of c)) → WritingInRange buffer (write_of c buffer)
+  passed_in_range : written_job.Writes (parts_of c) → judged_of c ≡ Written (length (layout_of c)) → WritingInRange buffer (write_of c buffer)
   passed_in_range k e =
       let size = layout_size c four in
       let least : 48 ≤ file_size c = omega (arith, k.0.counted.some, k.1.0.counted.some) in

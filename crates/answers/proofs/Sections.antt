@@ -4,9 +4,10 @@ use Rattle.whole.proofs.Laws.{◌≡◌, refl, subst, List, inl, inr, ℕ, zero,
 use Rattle.digits.proofs.Laws.{StoredSystem}
 use Rattle.admission.proofs.Laws.{SystemNumber, admission_number}
 use Rattle.opening.proofs.Laws.{Opening, Opens, OutOfRange, NotAbove, opening_number}
-use Rattle.sections.proofs.Laws.{◌then◌, nothing}
+use Rattle.sections.proofs.Laws.{◌then◌, nothing, ◌then_written◌, nothing_written}
 use Rattle.sections.specs.Section.{Section, Limits, Absent, no_count, too_few, too_many, cut_off, Breaks, absent, broken, Unwritable, count_low, count_high, contents}
-use Rattle.sections.specs.File.{File, Follows, bytes_follow, RefusesThen, here, later, RefusesValueThen, value_here, value_later}
+use Rattle.sections.specs.File.{File, Follows, bytes_follow, RefusesThen, here, later}
+use Rattle.sections.specs.Written.{Writing, RefusesValueThen, value_here, value_later}
 use Rattle.job_sections.proofs.Laws.{Contents, parts_of, system, matrix, word}
 use Rattle.jobs.specs.Refuses.{Refuses}
 use Rattle.round_trips.specs.Writes.{Unwritable as UnwritableJob}
@@ -37,7 +38,7 @@ unwritable_number s P wrong gives v n (count_low h) = wrong
 unwritable_number s P wrong gives v n (count_high h) = wrong
 unwritable_number s P wrong gives v n (contents c g h) = gives v n g h
 
-value_number : {A B : Type 0} (s : Section A) (f : File B) (P : ℕ → ℕ → Type 0) (i : ℕ) → ((v : A) (n : ℕ) → Unwritable s v n → P i n) →
+value_number : {A B : Type 0} (s : Section A) (f : Writing B) (P : ℕ → ℕ → Type 0) (i : ℕ) → ((v : A) (n : ℕ) → Unwritable s v n → P i n) →
     ((v : B) (n k : ℕ) → f.RefusesValue v (suc i) n k → P k n) → (v : A × B) (n k : ℕ) → RefusesValueThen s f v i n k → P k n
 value_number s f P i of-this of-those v n k (value_here u) = of-this v.0 n u
 value_number s f P i of-this of-those v n k (value_later w r) = of-those v.1 n k r
@@ -83,10 +84,10 @@ matrix_unwritable m n (contents c g h) = matrix_number m n g h
 
 pub contents_number : (c : Contents) (number section : ℕ) → UnwritableJob c number section → ContentsNumber section number
 contents_number c =
-    value_number system (system then (matrix then (word then nothing))) ContentsNumber 0 (unwritable_number system SystemNumber (inl refl) system_number)
-    (value_number system (matrix then (word then nothing)) ContentsNumber 1 (unwritable_number system SystemNumber (inl refl) system_number)
-    (value_number matrix (word then nothing) ContentsNumber 2 matrix_unwritable
-    (value_number word nothing ContentsNumber 3 (unwritable_number word (λ n. n ≡ 5) refl (λ w n e h. absurd (omega (arith, e, h)))) (λ v n k r. absurd r))))
+    value_number system (system then_written (matrix then_written (word then_written nothing_written))) ContentsNumber 0 (unwritable_number system SystemNumber (inl refl) system_number)
+    (value_number system (matrix then_written (word then_written nothing_written)) ContentsNumber 1 (unwritable_number system SystemNumber (inl refl) system_number)
+    (value_number matrix (word then_written nothing_written) ContentsNumber 2 matrix_unwritable
+    (value_number word nothing_written ContentsNumber 3 (unwritable_number word (λ n. n ≡ 5) refl (λ w n e h. absurd (omega (arith, e, h)))) (λ v n k r. absurd r))))
     (parts_of c)
 
 -- "those of the reader"

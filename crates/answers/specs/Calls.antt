@@ -90,15 +90,11 @@ LongList input output list = length input + length output + 1 ≤ length list
 
 -- ---- sled_read: 0, number + 256 · section, or 40
 
--- of a section, and a number that it can give
-pub record WithSection (Gives : ℕ → ℕ → Type 0) (answer : ℕ) : Type 0 where
+pub record FileNumber (answer : ℕ) : Type 0 where
   pub number : ℕ
   pub section : ℕ
   pub both : answer ≡ number + 256 * section
-  pub given : Gives section number
-
-abbrev pub FileNumber : ℕ → Type 0
-FileNumber = WithSection SectionNumber
+  pub given : SectionNumber section number
 
 -- the job that the numbers stand for: of what is found, the two counts of digits, where the word starts and how long it is
 abbrev pub job_from : AfterRead → Job
@@ -116,6 +112,13 @@ pub record ReadInRange (file : List ℕ) (in_columns out_columns m : List ℤ) (
   pub untouched : 1 ≤ r.number → r ≡ after_read r.number in_columns out_columns m found
 
 -- ---- sled_write: 0, number + 256 · section, or 40
+
+-- of a section, and a number that it can give
+pub record WithSection (Gives : ℕ → ℕ → Type 0) (answer : ℕ) : Type 0 where
+  pub number : ℕ
+  pub section : ℕ
+  pub both : answer ≡ number + 256 * section
+  pub given : Gives section number
 
 -- of the buffer, and what was there before of the one number for how many bytes are written
 pub record WriteInRange (file old : List ℕ) (r : AfterWrite) : Type 0 where

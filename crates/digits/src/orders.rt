@@ -46,7 +46,7 @@ pub fn in_rows(columns: &[i16], rows: &mut [i16])
 {
     let mut p = 0;
     while p < rows.len() {
-        rows[p] = columns[column_place(p)];
+        rows[p] = columns[16 * (p % 8) + p / 8];
         p += 1;
     }
 }

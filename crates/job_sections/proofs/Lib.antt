@@ -2,7 +2,7 @@
 --   Numbers      numbers in bytes: what is written is read back, and what is read is written back
 --   SameBytes    a system's bytes are those of its rows
 --   Judgements   what admission and opening say
---   Lawful       the three kinds of section, and so the job file, keep the laws of sections (crate `sections`)
+--   Lawful       the three kinds of section, and so the job file, keep the laws of sections (crate `sections`), read and written
 --   Sizes        how many bytes a job file has
 pub mod Laws
 mod Numbers

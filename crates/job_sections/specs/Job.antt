@@ -1,6 +1,7 @@
 -- The job file as sections: "Four sections in fixed order .. Nothing follows."
 use Rattle.std.specs.Prelude.{List, ℕ, ◌+◌, ◌*◌, length, ℤ}
 use Rattle.sections.specs.File.{File, nothing, ◌then◌}
+use Rattle.sections.specs.Written.{Writing, nothing_written, ◌then_written◌}
 use Rattle.digits.specs.Types.{StoredSystem}
 use Rattle.job_sections.specs.Layout.{Contents}
 use Rattle.job_sections.specs.Sections.{system, matrix, word}
@@ -10,6 +11,10 @@ Parts = StoredSystem × (StoredSystem × (List ℤ × (List ℕ × Unit {0})))
 
 abbrev pub job : File Parts
 job = system then (system then (matrix then (word then nothing)))
+
+-- the same file, as it is written
+abbrev pub written_job : Writing Parts
+written_job = system then_written (system then_written (matrix then_written (word then_written nothing_written)))
 
 abbrev pub contents_of : Parts → Contents
 contents_of p = record { input = p.0; output = p.1.0; matrix = p.1.1.0; word = p.1.1.1.0 }

@@ -6,17 +6,17 @@ use Rattle.admission.specs.Types.{WrongCount}
 use Rattle.opening.proofs.Laws.{opening_number, opening_of}
 use Rattle.sections.proofs.Laws.{judged, counted_judged, unwritable_judged}
 use Rattle.sections.specs.Section.{count_low, count_high}
-use Rattle.job_sections.proofs.Laws.{Contents, layout_of, system, matrix, word, system_lawful}
+use Rattle.job_sections.proofs.Laws.{Contents, layout_of, system, matrix, word, system_lawful, system_judges}
 use Rattle.job_writing.specs.Types.{NotWritten, Written}
 use Rattle.job_writing.specs.Writing.{judged_of}
 
 -- "3: a system has 0 or more than 16 digits" is admission's answer too
 system_judged : (s : StoredSystem) → judged system s ≡ refusal_number (admission_of (system_of s))
 system_judged s = elim (dec_le 1 s.count) [
-  | no h ↦ (unwritable_judged system system_lawful {v = s} (count_low (omega arith))).0 ∙ ap refusal_number (admitted_only (system_of s) WrongCount (inl (omega arith)))
+  | no h ↦ (unwritable_judged system system_lawful system_judges {v = s} (count_low (omega arith))).0 ∙ ap refusal_number (admitted_only (system_of s) WrongCount (inl (omega arith)))
   | yes h ↦ elim (dec_le s.count 16) [
-    | no k ↦ (unwritable_judged system system_lawful {v = s} (count_high (omega arith))).0 ∙ ap refusal_number (admitted_only (system_of s) WrongCount (inr (omega arith)))
-    | yes k ↦ counted_judged system system_lawful {v = s} (record { some = h; few = k })
+    | no k ↦ (unwritable_judged system system_lawful system_judges {v = s} (count_high (omega arith))).0 ∙ ap refusal_number (admitted_only (system_of s) WrongCount (inr (omega arith)))
+    | yes k ↦ counted_judged system system_lawful system_judges {v = s} (record { some = h; few = k })
   ]
 ]
 

@@ -1,16 +1,16 @@
 -- What is judged is so, and what `write` leaves: one law for each way. What passes the judgement has numbers that two bytes hold.
 use Rattle.whole.proofs.Laws.{◌≡◌, sym, ap, ◌∙◌, List, ℕ, ◌≤◌, ◌<◌, arith, lt-ltb, le-ltb, length, written}
-use Rattle.sections.proofs.Laws.{Exact, SaysOf, writes, refuses_value}
-use Rattle.job_sections.proofs.Laws.{Contents, layout_of, MatrixRules, Parts, job, parts_of, opened, matrix_16, job_lawful, layout_size}
+use Rattle.sections.proofs.Laws.{ExactOf, SaysOf, writes, refuses_value}
+use Rattle.job_sections.proofs.Laws.{Contents, layout_of, MatrixRules, Parts, written_job, parts_of, opened, matrix_16, written_job_lawful, layout_size}
 use Rattle.job_writing.specs.Types.{Writing, Written, NotWritten}
 use Rattle.job_writing.specs.Writing.{judged_of, wrote, written_by, write_of, Fits}
 
 -- what is said of contents that are judged so
 abbrev pub Says : Contents → Writing → Type 0
-Says c r = SaysOf {A = Parts} job (λ p. Written 0) NotWritten (Written (length (layout_of c))) (parts_of c) 0 r
+Says c r = SaysOf {A = Parts} written_job (λ p. Written 0) NotWritten (Written (length (layout_of c))) (parts_of c) 0 r
 
-exact : Exact {A = Parts} job (λ p. Written 0) NotWritten
-exact = job_lawful Writing (λ p. Written 0) NotWritten
+exact : ExactOf {A = Parts} written_job (λ p. Written 0) NotWritten
+exact = written_job_lawful Writing (λ p. Written 0) NotWritten
 
 pub judged_says : (c : Contents) → Says c (judged_of c)
 unfolding judged_of
@@ -26,15 +26,15 @@ written_not_refused e = let z : ◌≡◌ {A = ℕ} 0 1 = cc in omega arith
 pub same_size : {n m : ℕ} → Written n ≡ Written m → n ≡ m
 same_size e = cc
 
-pub passes : (c : Contents) {n : ℕ} → judged_of c ≡ Written n → job.Writes (parts_of c) × (n ≡ length (layout_of c))
+pub passes : (c : Contents) {n : ℕ} → judged_of c ≡ Written n → written_job.Writes (parts_of c) × (n ≡ length (layout_of c))
 passes c {n} = by (judged_of c) (judged_says c)
   where
-    by : (r : Writing) → Says c r → r ≡ Written n → job.Writes (parts_of c) × (n ≡ length (layout_of c))
+    by : (r : Writing) → Says c r → r ≡ Written n → written_job.Writes (parts_of c) × (n ≡ length (layout_of c))
     by r (writes k) e = (k, sym (same_size e))
     by r (refuses_value number section u) e = absurd (written_not_refused (sym e))
 
 -- the matrix of what passes keeps the rules
-pub passed_matrix : (c : Contents) → length c.matrix ≡ 4 → job.Writes (parts_of c) → MatrixRules c.matrix
+pub passed_matrix : (c : Contents) → length c.matrix ≡ 4 → written_job.Writes (parts_of c) → MatrixRules c.matrix
 passed_matrix c four k = let m = opened k.1.1.0.kept in record { four = four; in_range = m.0; above = m.1 }
 
 -- ---- one law for each way

@@ -5,7 +5,7 @@ use Rattle.whole.specs.Written.{written}
 use Rattle.digits.specs.Types.{StoredSystem}
 use Rattle.job_sections.specs.Layout.{Contents, layout_of}
 use Rattle.job_sections.specs.Sections.{Sixteen}
-use Rattle.job_sections.specs.Job.{job, parts_of, file_size}
+use Rattle.job_sections.specs.Job.{written_job, parts_of, file_size}
 use Rattle.job_writing.specs.Types.{Writing, Written, NotWritten}
 
 -- ---- an answer's numbers: of the refusal and its section, 0 and 0 where the file is written; and how many bytes are written
@@ -30,7 +30,7 @@ contents input output matrix word = record { input = input; output = output; mat
 
 -- "Refusals: those of the reader for the same contents, in its order"; where nothing is refused, as many bytes as the file has may be written
 unfoldable pub judged_of : Contents → Writing
-judged_of c = job.judge NotWritten (Written (length (layout_of c))) 0 (parts_of c)
+judged_of c = written_job.judge NotWritten (Written (length (layout_of c))) 0 (parts_of c)
 
 -- what writing leaves: its answer and the bytes of the buffer
 pub record Wrote : Type 0 where

@@ -5,7 +5,7 @@ use Rattle.digits.specs.Orders.{by_row}
 use Rattle.admission.proofs.Laws.{Admissible, Admitted, admission_of, same_judgement, admitted_says, admitted_only, SystemCase}
 use Rattle.opening.proofs.Laws.{Opens}
 use Rattle.sections.proofs.Laws.{Writable}
-use Rattle.job_sections.proofs.Laws.{Contents, two_bytes, numbers_bytes, matrix_bytes, word_bytes, layout_of, SystemRules, Rules, job, parts_of, system, admitted}
+use Rattle.job_sections.proofs.Laws.{Contents, two_bytes, numbers_bytes, matrix_bytes, word_bytes, layout_of, SystemRules, Rules, written_job, parts_of, system, admitted}
 use Rattle.job_writing.proofs.Laws.{passed_matrix}
 use Rattle.round_trips.specs.Writes.{cleared, as_read, Handed}
 
@@ -41,7 +41,7 @@ writable_system {s} h = record {
   kept = record { answer = Admitted; numbered = refl; holds = admissible_if (cleared s) s (sym (same_judged s)) h.admissible };
 }
 
-pub rules_as_read : (c : Contents) → Handed c → job.Writes (parts_of c) → Rules (as_read c)
+pub rules_as_read : (c : Contents) → Handed c → written_job.Writes (parts_of c) → Rules (as_read c)
 rules_as_read c h k = record {
   input = system_as_read k.0;
   output = system_as_read k.1.0;
@@ -49,7 +49,7 @@ rules_as_read c h k = record {
   word = record { short = k.1.1.1.0.counted.few; bytes = h.bytes };
 }
 
-pub writes_as_read : (c : Contents) → Rules (as_read c) → job.Writes (parts_of c)
+pub writes_as_read : (c : Contents) → Rules (as_read c) → written_job.Writes (parts_of c)
 writes_as_read c h = (
   writable_system h.input,
   (

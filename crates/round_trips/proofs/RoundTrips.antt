@@ -2,8 +2,8 @@
 use Rattle.whole.proofs.Laws.{◌≡◌, refl, sym, ap, ap₂, ◌∙◌, subst, List, ◌++◌, ℕ, ◌≤◌, length, take, front_written, written, ℤ}
 use Rattle.digits.proofs.Laws.{StoredSystem, rows_of, columns_of}
 use Rattle.admission.proofs.Laws.{refusal_number}
-use Rattle.sections.proofs.Laws.{Exact, writes, refuses_value, Counted, Told}
-use Rattle.job_sections.proofs.Laws.{Contents, Bytes, two_bytes, numbers_bytes, layout_of, Rules, Sixteen, Parts, job, parts_of, contents_of, system, job_lawful}
+use Rattle.sections.proofs.Laws.{ExactOf, writes, refuses_value, Counted, Told}
+use Rattle.job_sections.proofs.Laws.{Contents, Bytes, two_bytes, numbers_bytes, layout_of, Rules, Sixteen, Parts, job, parts_of, contents_of, system, written_job, written_job_lawful}
 use Rattle.job_writing.proofs.Laws.{Writing, Written, NotWritten, wrote, judged_of, write_of, Says, judged_says, said_judged, written_not_refused}
 use Rattle.jobs.proofs.Laws.{Reading, Reads, read_of, reading_of, refused, ReadsAs, reads_exactly, layout_reads, reads_laid, same_layout}
 use Rattle.round_trips.specs.Again.{read_contents, read_by}
@@ -69,8 +69,8 @@ told_system s h c = record {
 abbrev answer : Parts → Reading
 answer p = reading_of (contents_of p)
 
-exact : Exact {A = Parts} job answer refused
-exact = job_lawful Reading answer refused
+exact : ExactOf {A = Parts} written_job answer refused
+exact = written_job_lawful Reading answer refused
 
 -- the file that would be written of contents whose numbers bytes can say is read, or refused, as the writer judges
 pub refused_as_read : (c : Contents) → InBytes c → read_of (layout_of c) ≡ read_by c (judged_of c)
@@ -81,7 +81,7 @@ refused_as_read c h =
     (told_system c.input h.input, (told_system c.output h.output, ((λ k. record { sayable = h.matrix; bytes = refl; number = refl }), ((λ k. record { sayable = record { short = k.few; bytes = h.word }; bytes = refl; number = refl }), tt)))) ∙
     by (judged_of c) (judged_says c)
   where
-    by : (r : Writing) → Says c r → job.judge refused (answer (parts_of (as_read c))) 0 (parts_of c) ≡ read_by c r
+    by : (r : Writing) → Says c r → written_job.judge refused (answer (parts_of (as_read c))) 0 (parts_of c) ≡ read_by c r
     by r (writes k) = exact.said_of _ (parts_of c) 0 _ (writes k)
     by r (refuses_value number section u) = exact.said_of _ (parts_of c) 0 _ (refuses_value number section u)
 

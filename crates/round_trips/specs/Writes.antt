@@ -5,7 +5,7 @@ use Rattle.digits.specs.Orders.{columns_of, rows_of}
 use Rattle.sections.specs.Bytes.{Bytes}
 use Rattle.job_sections.specs.Layout.{Contents, layout_of, Rules}
 use Rattle.job_sections.specs.Sections.{Sixteen, MatrixSayable}
-use Rattle.job_sections.specs.Job.{job, parts_of}
+use Rattle.job_sections.specs.Job.{written_job, parts_of}
 use Rattle.whole.specs.Written.{written}
 use Rattle.job_writing.specs.Types.{Written, NotWritten}
 use Rattle.job_writing.specs.Writing.{Wrote, wrote}
@@ -19,9 +19,9 @@ abbrev pub as_read : Contents → Contents
 as_read c = record { input = cleared c.input; output = cleared c.output; matrix = c.matrix; word = c.word }
 
 -- the contents break the rules, by a number in a section: "those of the reader for the same contents, in its order". Every section before it is one that
--- could be written, and this one is not (sections/specs/File.antt, `RefusesValueThen`; sections/specs/Section.antt, `Unwritable`)
+-- could be written, and this one is not (sections/specs/Written.antt, `RefusesValueThen`; sections/specs/Section.antt, `Unwritable`)
 abbrev pub Unwritable : Contents → ℕ → ℕ → Type 0
-Unwritable c number section = job.RefusesValue (parts_of c) 0 number section
+Unwritable c number section = written_job.RefusesValue (parts_of c) 0 number section
 
 -- "then 14, buffer too short": the job keeps the rules, and its file has more bytes than the buffer
 pub data WriteRefuses (c : Contents) (buffer : List ℕ) : ℕ → ℕ → Type 0 where

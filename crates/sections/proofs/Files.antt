@@ -1,12 +1,11 @@
 -- Every file of lawful sections is read exactly as its words say, and settled by its first bytes.
-use Rattle.whole.proofs.Laws.{◌≡◌, refl, sym, ap, ◌∙◌, subst, List, [], ◌∷◌, ◌++◌, inl, inr, ℕ, zero, suc, ◌+◌, ◌-◌, ◌≤◌, ◌<◌, mul-le-mul_left, arith, length, take, length-append, unless_refused, passed, decided, eq-zero-or-pos}
+use Rattle.whole.proofs.Laws.{◌≡◌, refl, sym, ap, ◌∙◌, subst, List, [], ◌∷◌, ◌++◌, inl, inr, ℕ, zero, suc, ◌+◌, ◌-◌, ◌≤◌, ◌<◌, mul-le-mul_left, arith, length, take, length-append, unless_refused, passed, decided}
 use Rattle.sections.specs.Bytes.{Bytes}
-use Rattle.sections.specs.Section.{size_of, limit, Section, bytes_of, Rules, value_of, number_of, Writable, judged, Lawful as LawfulSection}
-use Rattle.sections.specs.File.{File, bytes_follow, ends, nothing, here, later, value_here, value_later, ◌then◌, Says, reads, refuses, SaysOf, writes, refuses_value, Exact, Lawful}
+use Rattle.sections.specs.Section.{size_of, limit, Section, bytes_of, Rules, value_of, number_of, Lawful as LawfulSection}
+use Rattle.sections.specs.File.{File, bytes_follow, ends, nothing, here, later, ◌then◌, Says, reads, refuses, Exact, Lawful}
 use Rattle.sections.proofs.Bytes.{drop_bytes, or_all}
 use Rattle.sections.proofs.Counted.{absent_number, presence_says}
 use Rattle.sections.proofs.Sections.{Begins, begins, present_number, absent_decides, breaks_number, section_says, absent_same, present_same}
-use Rattle.sections.proofs.Judged.{writable_judged, unwritable_judged, judged_says, read_judged, read_told}
 
 -- ---- nothing
 
@@ -35,14 +34,7 @@ nothing_lawful R answer refuse = record {
   said = nothing_said answer refuse;
   settled = nothing_settled answer refuse;
   fits = λ v k. omega arith;
-  says_of = λ go v i. writes tt;
-  said_of = said_of;
-  read_as_judged = λ v w i t. refl;
 }
-  where
-    said_of : (go : R) (v : Unit {0}) (i : ℕ) (r : R) → SaysOf nothing answer refuse go v i r → go ≡ r
-    said_of go v i _ (writes k) = refl
-    said_of go v i _ (refuses_value number section u) = absurd u
 
 -- ---- a section, and a file behind it
 
@@ -67,7 +59,7 @@ module _ {A B R : Type 0} (s : Section A) (f : File B) (l : LawfulSection s) (an
   peel : {bytes rest : List ℕ} {v : A} (i : ℕ) → Rules s v → bytes ≡ bytes_of s v ++ rest → (s then f).read answer refuse i bytes ≡ behind v rest i
   peel {bytes} {rest} {v} i k e =
       let w = subst (λ (x : List ℕ). Begins s x v rest) (sym e) (begins s l v rest k.sayable) in
-      passed _ _ (present_number s w.present ∙ ap s.number w.value ∙ l.given v 0 k.kept) ∙ (λ j. behind (w.value j) (w.rest j) i)
+      passed _ _ (present_number s w.present ∙ ap s.number w.value ∙ l.given v 0 k.sayable k.kept) ∙ (λ j. behind (w.value j) (w.rest j) i)
 
   then_said : (bytes : List ℕ) (i : ℕ) (r : R) → Says (s then f) answer refuse bytes i r → (s then f).read answer refuse i bytes ≡ r
   then_said bytes i _ (reads v k e) = peel i k.0 e ∙ (g v.0).said _ (suc i) _ (reads v.1 k.1 refl)
@@ -94,36 +86,6 @@ module _ {A B R : Type 0} (s : Section A) (f : File B) (l : LawfulSection s) (an
       let w = (l.said v.0 k.0.sayable).0 in
       omega (arith, length-append (bytes_of s v.0) (f.layout v.1), (g v.0).fits v.1 k.1, w.size, mul-le-mul_left s.limits.unit w.few)
 
-  -- ---- a value that is to be written
-
-  value_behind : {v : A × B} (go : R) (i : ℕ) → Writable s v.0 → (r : R) → SaysOf f (λ b. answer (v.0, b)) refuse go v.1 (suc i) r →
-      SaysOf (s then f) answer refuse go v i r
-  value_behind go i k _ (writes u) = writes (k, u)
-  value_behind go i k _ (refuses_value number section u) = refuses_value number section (value_later k u)
-
-  then_says_of : (go : R) (v : A × B) (i : ℕ) → SaysOf (s then f) answer refuse go v i ((s then f).judge refuse go i v)
-  then_says_of go v i = elim (judged_says s l v.0) [
-    | inl k ↦ subst (SaysOf (s then f) answer refuse go v i) (sym (passed _ _ (writable_judged s l k))) (value_behind go i k _ ((g v.0).says_of go v.1 (suc i)))
-    | inr u ↦ subst (SaysOf (s then f) answer refuse go v i) (sym (decided _ _ (λ z. omega (arith, unwritable_judged s l u)))) (refuses_value _ i (value_here u))
-  ]
-
-  then_said_of : (go : R) (v : A × B) (i : ℕ) (r : R) → SaysOf (s then f) answer refuse go v i r → (s then f).judge refuse go i v ≡ r
-  then_said_of go v i _ (writes k) = passed _ _ (writable_judged s l k.0) ∙ (g v.0).said_of go v.1 (suc i) _ (writes k.1)
-  then_said_of go v i _ (refuses_value _ _ (value_here b)) =
-      let n = unwritable_judged s l b in decided _ _ (λ z. omega (arith, n)) ∙ ap (λ (k : ℕ). refuse k i) n.0
-  then_said_of go v i _ (refuses_value _ _ (value_later {number} {section} k t)) =
-      passed _ _ (writable_judged s l k) ∙ (g v.0).said_of go v.1 (suc i) _ (refuses_value number section t)
-
-  then_read_as_judged : (v w : A × B) (i : ℕ) → (s then f).ReadBack v w → (s then f).read answer refuse i ((s then f).layout v) ≡ (s then f).judge refuse (answer w) i v
-  then_read_as_judged v w i t =
-      let n = read_judged s l v.0 w.0 (f.layout v.1) t.0 in
-      elim (eq-zero-or-pos (judged s v.0)) [
-        | inr h ↦ decided _ _ (λ z. omega (arith, n)) ∙ ap (λ (k : ℕ). refuse k i) n ∙ sym (decided _ _ (λ z. omega arith))
-        | inl z ↦
-            let b = read_told s l v.0 w.0 (f.layout v.1) t.0 z in
-            passed _ _ (n ∙ z) ∙ (λ j. behind (b.value j) (b.rest j) i) ∙ (g w.0).read_as_judged v.1 w.1 (suc i) t.1 ∙ sym (passed _ _ z)
-      ]
-
 pub then_lawful : {A B : Type 0} (s : Section A) (f : File B) → LawfulSection s → Lawful f → Lawful (s then f)
 then_lawful {A} s f l g R answer refuse =
     record {
@@ -131,9 +93,6 @@ then_lawful {A} s f l g R answer refuse =
       said = then_said s f l answer refuse h;
       settled = then_settled s f l answer refuse h;
       fits = then_fits s f l answer refuse h;
-      says_of = then_says_of s f l answer refuse h;
-      said_of = then_said_of s f l answer refuse h;
-      read_as_judged = then_read_as_judged s f l answer refuse h;
     }
   where
     h : (v : A) → Exact f (λ b. answer (v, b)) refuse

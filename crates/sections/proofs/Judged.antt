@@ -1,10 +1,10 @@
 -- A value that is to be written is judged exactly as the words say, and as the reader judges what is written of it.
 use Rattle.whole.proofs.Laws.{◌≡◌, sym, ap, ◌∙◌, subst, List, ◌++◌, ◌⊎◌, inl, inr, ℕ, ◌≤◌, mod-add-div, eq-zero-or-pos, dec_le, arith, lt-ltb, le-ltb}
 use Rattle.sections.specs.Bytes.{count_of}
-use Rattle.sections.specs.Section.{too_few, too_many, Section, bytes_of, number_of, Counted, Writable, Unwritable, count_low, count_high, contents, judged, Told, Lawful}
+use Rattle.sections.specs.Section.{too_few, too_many, Section, bytes_of, number_of, Counted, Writable, Unwritable, count_low, count_high, contents, judged, Told, Lawful, Judges}
 use Rattle.sections.proofs.Sections.{Begins, begins, present_number, absent_decides}
 
-module _ {A : Type 0} (s : Section A) (l : Lawful s) where
+module _ {A : Type 0} (s : Section A) (l : Lawful s) (j : Judges s) where
   module _ {v : A} where
     -- a count that is right leaves it to the contents
     pub counted_judged : Counted s v → judged s v ≡ s.number v
@@ -18,10 +18,10 @@ module _ {A : Type 0} (s : Section A) (l : Lawful s) where
       | yes f ↦ (rw (le-ltb (s.count v) s.limits.least f, lt-ltb s.limits.most (s.count v) h), l.refused)
       | no f ↦ (rw (lt-ltb (s.count v) s.limits.least (omega arith)), l.refused)
     ]
-    unwritable_judged (contents {number} c g n) = (counted_judged c ∙ l.given v number g, n)
+    unwritable_judged (contents {number} c g n) = (counted_judged c ∙ j.given v number g, n)
 
     pub writable_judged : Writable s v → judged s v ≡ 0
-    writable_judged w = counted_judged w.counted ∙ l.given v 0 w.kept
+    writable_judged w = counted_judged w.counted ∙ j.given v 0 w.kept
 
   module _ (v : A) where
     unwritable : {number : ℕ} → Unwritable s v number → Writable s v ⊎ Unwritable s v (judged s v)
@@ -35,8 +35,8 @@ module _ {A : Type 0} (s : Section A) (l : Lawful s) where
         | yes k ↦
             let c : Counted s v = record { some = h; few = k } in
             elim (eq-zero-or-pos (s.number v)) [
-              | inl z ↦ inl (record { counted = c; kept = subst (s.Gives v) z (l.gives v) })
-              | inr n ↦ unwritable (contents c (l.gives v) n)
+              | inl z ↦ inl (record { counted = c; kept = subst (s.Gives v) z (j.gives v) })
+              | inr n ↦ unwritable (contents c (j.gives v) n)
             ]
       ]
     ]

@@ -50,7 +50,7 @@ module _ {A : Type 0} (s : Section A) (l : Lawful s) where
     breaks_number (absent a) = (absent_decides a, absent_number l.refused a)
     breaks_number (broken {v} {number} more e h g n) =
         let r = subst (λ (x : List ℕ). Begins s x v more) (sym e) (begins v more h) in
-        (present_number s r.present ∙ ap s.number r.value ∙ l.given v number g, n)
+        (present_number s r.present ∙ ap s.number r.value ∙ l.given v number h g, n)
 
     whole : Present s.limits bytes → Whole s (count_of bytes) (take (s.limits.unit * count_of bytes) (drop 2 bytes))
     whole p = record { some = p.some; few = p.few; size = length-take-le _ (drop 2 bytes) (omega (arith, p.fits, length-drop 2 bytes)) }
@@ -61,7 +61,7 @@ module _ {A : Type 0} (s : Section A) (l : Lawful s) where
       | inl p ↦
           let u = s.limits.unit * count_of bytes in
           let w = l.says (count_of bytes) (take u (drop 2 bytes)) (take_bytes (drop_bytes h 2) u) (whole p) in
-          let g = l.gives (value_of s bytes) in
+          let g = l.gives (value_of s bytes) w.0 in
           let e : bytes ≡ bytes_of s (value_of s bytes) ++ drop (size_of s.limits bytes) bytes =
           count_first bytes h (omega (arith, p.fits)) ∙ ap (λ (r : List ℕ). two_bytes (count_of bytes) ++ r) (sym (take-append-drop u (drop 2 bytes))) ∙
           ap (λ (r : List ℕ). two_bytes (count_of bytes) ++ (take u (drop 2 bytes) ++ r)) (drop-drop u 2 bytes) ∙

@@ -20,13 +20,13 @@ size_of l bytes = 2 + l.unit * count_of bytes
 abbrev pub limit : Limits → ℕ
 limit l = 2 + l.unit * l.most
 
--- "count right (3, 4, 5)": what comes next, or the number of a wrong count
-abbrev pub count_right : Limits → ℕ → ℕ → ℕ
-count_right l count next = cond (ltb count l.least) l.wrong (cond (ltb l.most count) l.wrong next)
-
 -- "a section's count present (1), count right (3, 4, 5), section present (1)": the number, or 0
 unfoldable pub presence : Limits → List ℕ → ℕ
-presence l bytes = cond (ltb (length bytes) 2) 1 (count_right l (count_of bytes) (cond (ltb (length bytes) (size_of l bytes)) 1 0))
+presence l bytes =
+    cond (ltb (length bytes) 2) 1
+    (cond (ltb (count_of bytes) l.least) l.wrong
+    (cond (ltb l.most (count_of bytes)) l.wrong
+    (cond (ltb (length bytes) (size_of l bytes)) 1 0)))
 
 -- when bytes are no whole section, and by which number they are refused
 pub data Absent (l : Limits) (bytes : List ℕ) : ℕ → Type 0 where
@@ -77,8 +77,26 @@ module _ {A : Type 0} (s : Section A) where
   unfoldable pub number_of : List ℕ → ℕ
   number_of bytes = unless_refused (presence s.limits bytes) (λ number. number) (s.number (value_of bytes))
 
-  -- ---- a value by itself, before it is written: the reader's numbers for it, "count right (3, 4, 5) .. then contents"
+  -- what is to hold of a section, so that the computation says what the words say (proofs/Sections.antt)
+  pub record Whole (n : ℕ) (body : List ℕ) : Type 0 where
+    pub some : s.limits.least ≤ n
+    pub few : n ≤ s.limits.most
+    pub size : length body ≡ s.limits.unit * n
 
+  pub record Lawful : Type 0 where
+    pub refused : 1 ≤ s.limits.wrong
+    pub says : (n : ℕ) (body : List ℕ) → Bytes body → Whole n body → s.Sayable (s.value n body) × (bytes_of (s.value n body) ≡ two_bytes n ++ body)
+    pub said : (v : A) → s.Sayable v → Whole (s.count v) (s.body v) × (s.value (s.count v) (s.body v) ≡ v)
+    pub gives : (v : A) → s.Sayable v → s.Gives v (s.number v)
+    pub given : (v : A) (number : ℕ) → s.Sayable v → s.Gives v number → s.number v ≡ number
+
+-- ---- a value by itself, before it is written: the reader's numbers for it, "count right (3, 4, 5) .. then contents"
+
+-- "count right (3, 4, 5)": what comes next, or the number of a wrong count
+abbrev pub count_right : Limits → ℕ → ℕ → ℕ
+count_right l count next = cond (ltb count l.least) l.wrong (cond (ltb l.most count) l.wrong next)
+
+module _ {A : Type 0} (s : Section A) where
   pub record Counted (v : A) : Type 0 where
     pub some : s.limits.least ≤ s.count v
     pub few : s.count v ≤ s.limits.most
@@ -99,19 +117,10 @@ module _ {A : Type 0} (s : Section A) where
   -- what is written of v is read as w: bytes can say w, which has the same bytes and the same number
   pub record Told (v w : A) : Type 0 where
     pub sayable : s.Sayable w
-    pub bytes : bytes_of v ≡ bytes_of w
+    pub bytes : bytes_of s v ≡ bytes_of s w
     pub number : s.number v ≡ s.number w
 
-  -- ---- what is to hold of a section, so that the computations say what the words say (proofs/Sections.antt)
-
-  pub record Whole (n : ℕ) (body : List ℕ) : Type 0 where
-    pub some : s.limits.least ≤ n
-    pub few : n ≤ s.limits.most
-    pub size : length body ≡ s.limits.unit * n
-
-  pub record Lawful : Type 0 where
-    pub refused : 1 ≤ s.limits.wrong
-    pub says : (n : ℕ) (body : List ℕ) → Bytes body → Whole n body → s.Sayable (s.value n body) × (bytes_of (s.value n body) ≡ two_bytes n ++ body)
-    pub said : (v : A) → s.Sayable v → Whole (s.count v) (s.body v) × (s.value (s.count v) (s.body v) ≡ v)
+  -- what is to hold besides of a section that is written: its number is given of every value, whether bytes can say it or not (proofs/Judged.antt)
+  pub record Judges : Type 0 where
     pub gives : (v : A) → s.Gives v (s.number v)
     pub given : (v : A) (number : ℕ) → s.Gives v number → s.number v ≡ number

@@ -1,10 +1,8 @@
 // Answers many job files from one input, each as the program `sledhillock` would: for tests that compare thousands of them. The input is, again and again, the length of a
 // file (4 bytes, low byte first), the file, and how many places a list has (2 bytes); it ends between two files. The program's own list is never full: so, where the file
-// reads, a fourth line follows, of a run with that list; and a fifth, of the job written again.
+// reads, a fourth line follows, of a run with that list.
 #![tactic(auto)]
 
-use digits::System;
-use job_writing::Writing;
 use jobs::{Job, Verdict};
 use std::io;
 use test_input::Input;
@@ -36,69 +34,6 @@ fn print_line(output: &mut Output, a: Answer, list: &[u64]) {
     test_output::text(output, b"\n");
 }
 
-// How many bytes of one slice, from the first on, stand in another.
-fn same_bytes(these: &[u8], those: &[u8]) -> usize {
-    for i in 0..these.len() {
-        if those.len() <= i {
-            return i;
-        }
-        if these[i] != those[i] {
-            return i;
-        }
-    }
-    these.len()
-}
-
-// The fifth line: the number of the refusal, how many bytes were written, and how many of them, from the first on, are the file's.
-fn write_into(
-    output: &mut Output,
-    inputs: System,
-    outputs: System,
-    matrix: [i64; 4],
-    word: &[u8],
-    file: &[u8],
-    buffer: &mut [u8],
-) {
-    let answer = jobs::write(inputs, outputs, matrix, word, buffer);
-    match answer {
-        Writing::Written(n) => {
-            test_output::decimal(output, 0);
-            test_output::number(output, n as u64);
-        }
-        Writing::NotWritten(number, _) => {
-            test_output::decimal(output, number as u64);
-            test_output::number(output, 0);
-        }
-    }
-    test_output::number(output, same_bytes(buffer, file) as u64);
-    test_output::text(output, b"\n");
-}
-
-// The job that was read is written again, into a buffer as long as the file, of bytes that are 238 before. (No file is longer; the test says it again, so that nothing has to be proved here.)
-fn write_again(
-    output: &mut Output,
-    inputs: System,
-    outputs: System,
-    matrix: [i64; 4],
-    word: &[u8],
-    file: &[u8],
-) {
-    let mut buffer = [238u8; 65536];
-    if 65536 < file.len() {
-        return;
-    }
-    let from = 65536 - file.len();
-    write_into(
-        output,
-        inputs,
-        outputs,
-        matrix,
-        word,
-        file,
-        &mut buffer[from..],
-    );
-}
-
 // Runs a job from its start, with as much room as the program gives, and this list. (The word lies inside a file that reads, which the two tests say again.)
 fn run_with(output: &mut Output, job: Job, file: &[u8], list: &mut [u64]) {
     let inputs = job.input;
@@ -118,7 +53,6 @@ fn run_with(output: &mut Output, job: Job, file: &[u8], list: &mut [u64]) {
     let mut digits = [0u8; 8192];
     let answer = unary::run(inputs, outputs, state, &file[a..e], &mut digits, list);
     print_line(output, answer, list);
-    write_again(output, inputs, outputs, matrix, &file[a..e], file);
 }
 
 // The fourth line of a file, where it reads.
