@@ -7,7 +7,7 @@ use Rattle.admission.proofs.Laws.{admission_of, admission_number}
 use Rattle.states.proofs.Laws.{StateRules}
 use Rattle.opening.proofs.Laws.{Opening, Opens, OutOfRange, NotAbove, Start, OpeningCase, opening_number, open_of, refused_start, start_of, opens, hands_out, opened_rules}
 use Rattle.sections.proofs.Laws.{writes, refuses_value}
-use Rattle.job_sections.proofs.Laws.{Bytes, Contents, layout_of, job, parts_of, file_size, layout_size}
+use Rattle.job_sections.proofs.Laws.{Bytes, Contents, layout_of, written_job, parts_of, file_size, layout_size}
 use Rattle.job_writing.proofs.Laws.{Writing, Written, NotWritten, wrote, judged_of, write_of, Says, judged_says, refused_leaves, short_leaves, file_leaves}
 use Rattle.jobs.proofs.Laws.{Verdict, Reads, Refused, read_of, reads_laid, layout_length, refuses_exactly, refused_no_job}
 use Rattle.jobs.specs.Reading.{reading_of}

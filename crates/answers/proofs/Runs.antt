@@ -1,7 +1,6 @@
 -- The range of what a run leaves in lent numbers. A run that is not refused stops with an end, 0, 15 or 20 to 22, its state keeps the rules, and the five numbers are those
 -- of that state. A run that is refused leaves the state, the output and the list as they were.
 use Rattle.whole.proofs.Laws.{◌≡◌, refl, sym, subst, List, inl, inr, ℕ, ◌<◌, ◌≤◌, arith, ℤ, pos, negsuc, Within, up<}
-use Rattle.plane.proofs.Laws.{entries}
 use Rattle.digits.proofs.Laws.{System}
 use Rattle.states.proofs.Laws.{Held, Nothing, Digit, State, HeldDigit, EndNumber}
 use Rattle.steps.proofs.Laws.{setting}

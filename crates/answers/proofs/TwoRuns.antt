@@ -1,6 +1,6 @@
 -- The range of what a run over two words leaves in lent numbers. A run that is not refused stops with an end, 0 or 20 to 22, its state keeps the rules, and the eleven numbers
 -- are those of that state. A run that is refused leaves the state and the output as they were.
-use Rattle.whole.proofs.Laws.{◌≡◌, refl, sym, ap, subst, true≢false, List, ◌⊎◌, inl, inr, ℕ, ◌≤◌, arith, length, ℤ, pos}
+use Rattle.whole.proofs.Laws.{◌≡◌, refl, sym, subst, List, ◌⊎◌, inl, inr, ℕ, ◌≤◌, arith, ℤ, pos}
 use Rattle.digits.proofs.Laws.{System}
 use Rattle.bilinear.proofs.Laws.{WithinForm}
 use Rattle.states.proofs.Laws.{HeldDigit, EndNumber}

@@ -25,7 +25,8 @@ pub data PluginSession (a b : StoredSystem) (m : List ℤ) : Deed → List ℤ �
   opened : admit_number a ≡ 0 → admit_number b ≡ 0 → (old : List ℤ) → (open_call_of m old).number ≡ 0 → PluginSession a b m nothing (open_call_of m old).numbers
   called : {done : Deed} {kept : List ℤ} → PluginSession a b m done kept → (input output divisors counts : List ℕ) →
       ((run_call_of a b input kept output divisors counts).number ≡ wrong_length → ⊥) →
-      PluginSession a b m (and_then done (did_call input (run_call_of a b input kept output divisors counts))) (run_call_of a b input kept output divisors counts).state
+      PluginSession a b m (and_then done (did_call input (run_call_of a b input kept output divisors counts)))
+      (run_call_of a b input kept output divisors counts).state
 
 -- it is a session (crates/meaning), and the numbers are those of its state, which is read back from them as it was
 pub record IsSession (a b : StoredSystem) (m : List ℤ) (done : Deed) (kept : List ℤ) : Type 0 where

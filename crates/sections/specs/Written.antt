@@ -1,6 +1,6 @@
 -- A file's value that is to be written: sections one behind the other, as File has them. "The answer is the number and the section." "Refusals: those of
 -- the reader for the same contents, in its order".
-use Rattle.std.specs.Prelude.{◌≡◌, List, ℕ, suc}
+use Rattle.std.specs.Prelude.{◌≡◌, ℕ, suc}
 use Rattle.whole.specs.Refusal.{unless_refused}
 use Rattle.sections.specs.Section.{Section, Counted, Writable, Unwritable, judged, Told}
 use Rattle.sections.specs.File.{File, nothing, ◌then◌}

@@ -30,7 +30,12 @@ abbrev pub held_by : ℤ → Held → Held
 held_by z h = cond (turn? z) h (Digit 255)
 
 unfoldable pub two_from : List ℤ → TwoState
-two_from l = record { form = form (entries l) (entries (drop 4 l)); x = held_by (at l 10) (held_from (at l 8)); y = held_from (at l 9); turn = turn_from (at l 10) }
+two_from l = record {
+  form = form (entries l) (entries (drop 4 l));
+  x = held_by (at l 10) (held_from (at l 8));
+  y = held_from (at l 9);
+  turn = turn_from (at l 10);
+}
 
 -- the eleven numbers behind a run: a refusal leaves them as they came, whatever they were
 unfoldable pub two_after : Stop → TwoState → List ℤ → List ℤ
