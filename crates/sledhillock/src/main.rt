@@ -4,30 +4,36 @@
 // largest that reads has 4,624 bytes, and of a longer one no more is looked at than that a byte follows the word.
 #![tactic(auto)]
 
-ghost use Rattle.std.specs.Io.{ReadsAtMost};
+ghost use Rattle.std.specs.Prelude.{◌≡◌, ◌≤◌, length};
 
 use std::io::{self, Read, Stdin, Write};
 
-// Reads until the buffer is full or the input has ended. Answers how many bytes came.
-fn read_full(stdin: &mut Stdin, buffer: &mut [u8]) -> io::Result<usize>
-    ensures { ReadsAtMost result buffer.new }
+// Reads until the buffer is full, the input has ended or a read has failed. Answers how many bytes came, and that failure.
+fn read_full(stdin: &mut Stdin, buffer: &mut [u8]) -> (usize, io::Result<()>)
+    ensures length { length buffer.new ≡ length buffer.old }
+    ensures within { result.0 ≤ length buffer.old }
 {
     let mut done = 0;
     while done < buffer.len() {
-        let n = stdin.read(&mut buffer[done..])?;
-        if n == 0 {
-            break;
+        match stdin.read(&mut buffer[done..]) {
+            Ok(n) => {
+                if n == 0 {
+                    return (done, Ok(()));
+                }
+                done += n;
+            }
+            Err(e) => return (done, Err(e)),
         }
-        done += n;
     }
-    Ok(done)
+    (done, Ok(()))
 }
 
+// A failed read is answered as the end of the input is, and handed out behind the answer.
 fn main(rt: HostRuntime) -> io::Result<()> {
     let mut file = [0u8; 4625];
-    let n = read_full(&mut rt.stdin(), &mut file)?;
+    let (n, read) = read_full(&mut rt.stdin(), &mut file);
     let mut digits = [0u8; 8192];
     let mut out = [0u8; 40000];
     let length = printed::respond(&file[..n], &mut digits, &mut out);
-    rt.stdout().write_all(&out[..length])
+    rt.stdout().write_all(&out[..length]).and(read)
 }
