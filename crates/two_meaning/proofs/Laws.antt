@@ -8,6 +8,7 @@ pub use Rattle.two_meaning.proofs.TwoSessions.{newly_opened_two, called_again_tw
 pub use Rattle.two_meaning.proofs.TwoMoments.{TwoMeant, TwoMeantBy}
 pub use Rattle.two_meaning.proofs.TwoSessions.{TwoMoment, session_two_moment, call_two_moment}
 -- a sum, a product and a difference
-pub use Rattle.two_meaning.proofs.WorkedPairs.{WorkedPairs, worked_pairs}
+pub use Rattle.two_meaning.proofs.WorkedPairs.{WorkedPairs}
+pub use Rattle.two_meaning.proofs.WorkedPairsHold.{worked_pairs}
 -- the definitions
 pub use Rattle.two_meaning.specs.TwoSession.{Operation, adding, subtracting, multiplying, TwoCalls, none, called, TwoSession, OfBothAbsorbed, UpToScaleForm, TwoProductHolds, TwoNamed, TwoNamedHolds, TwoNumbersHold, DuringTwo, two_did_by}

@@ -3,10 +3,11 @@
 --   TwoMoments    what holds from the opened state on, step by step
 --   TwoClaims     the sentences of demand 3, read off it
 --   TwoSessions   the sentences of sessions and of every moment within a call, and the bridge to the code
---   WorkedPairs   a sum, a product and a difference, worked
+--   WorkedPairs   a sum, a product and a difference, worked; WorkedPairsHold has them under one theorem
 mod UpToScale
 mod TwoMoments
 mod TwoClaims
 mod TwoSessions
 mod WorkedPairs
+mod WorkedPairsHold
 pub mod Laws

@@ -1,4 +1,4 @@
--- Runs over two words, worked: `worked_pairs`. A sum, a product and a difference, computed by the checker from the definitions of opening, `run` and what digits name.
+-- Runs over two words, worked. A sum, a product and a difference, computed by the checker from the definitions of opening, `run` and what digits name.
 -- 1/2 + 1/3 on D. The word 2 1 1 1 .. names 1/2, since 1 1 1 .. names 0, and 2 0 2 0 .. names 1/3. Of ten digits each, the sum gives out 2 2 2 0 2 0 2 0 and stops with end 0,
 -- where x has no digit left. The last digit of y, a 0, is held and not absorbed; so the rest of y is named from it on, and is −1/3. X makes 4/12 of the two rests, and in front of
 -- it the digits given out name 5/6.
@@ -82,19 +82,19 @@ pub record WorkedPairs : Type 0 where
 
 -- ---- the runs
 
-sum_ends : Ends system_d sum_form half (third ++ 0 ∷ []) five_sixths 10 8 sum_state 0
+pub sum_ends : Ends system_d sum_form half (third ++ 0 ∷ []) five_sixths 10 8 sum_state 0
 unfolding stored admission_of rows_verdict row_verdict within? gcd gcd4 gcd_by transformation_by interval_by first unless_refused closed? same? included? determinant_of
     pseudoinverse_of apply multiply_of image_of cancel_of form_of expands? follow run_by run judged_run on_two apply_two into_x into_y times_form gcd8 cancel_form images_of all_coefficients
     may_give? giving_of two_state? two_refusal refusal_by two_course two_run
 sum_ends = refl
 
-product_ends : Ends system_b product_form (3 ∷ 2 ∷ []) (3 ∷ 2 ∷ []) (3 ∷ 2 ∷ 4 ∷ []) 2 3 product_state 2
+pub product_ends : Ends system_b product_form (3 ∷ 2 ∷ []) (3 ∷ 2 ∷ []) (3 ∷ 2 ∷ 4 ∷ []) 2 3 product_state 2
 unfolding stored rows_in rows_b admission_of rows_verdict row_verdict within? gcd gcd4 gcd_by transformation_by interval_by first unless_refused closed? same? included? determinant_of
     pseudoinverse_of apply multiply_of image_of cancel_of form_of expands? follow run_by run judged_run on_two apply_two into_x into_y times_form gcd8 cancel_form images_of all_coefficients
     may_give? giving_of two_state? two_refusal refusal_by two_course two_run
 product_ends = refl
 
-difference_ends : Ends system_r difference_form (eleven ++ 1 ∷ []) (eleven ++ 1 ∷ []) [] 12 0 difference_state 1
+pub difference_ends : Ends system_r difference_form (eleven ++ 1 ∷ []) (eleven ++ 1 ∷ []) [] 12 0 difference_state 1
 unfolding stored admission_of rows_verdict row_verdict within? gcd gcd4 gcd_by transformation_by interval_by first unless_refused closed? same? included? determinant_of
     pseudoinverse_of apply multiply_of image_of cancel_of form_of expands? follow run_by run judged_run on_two apply_two into_x into_y times_form gcd8 cancel_form images_of all_coefficients
     may_give? giving_of two_state? two_refusal refusal_by two_course two_run
@@ -106,7 +106,7 @@ difference_ends = refl
 times : (n : ℕ) {x y : Pair} → 0 < n → scale_pair (pos 1) x ≡ scale_pair (pos n) y → SamePoint x y
 times n above e = same_point (pos 1) (pos n) (above_not_0 (up< (omega arith))) (above_not_0 (up< above)) e
 
-sum_numbers : Names system_d sum_form half third five_sixths sum_state (pos 0 over pos 1) (minus 1 over pos 3) (pos 1 over pos 2) (pos 1 over pos 3) (pos 5 over pos 6)
+pub sum_numbers : Names system_d sum_form half third five_sixths sum_state (pos 0 over pos 1) (minus 1 over pos 3) (pos 1 over pos 2) (pos 1 over pos 3) (pos 5 over pos 6)
 unfolding named_from apply transformation_by interval_by stored apply_two on_two scale_pair
 sum_numbers = record {
   first_number = times 512 (omega arith) refl;
@@ -115,7 +115,7 @@ sum_numbers = record {
   given_number = times 512 (omega arith) refl;
 }
 
-product_numbers : Names system_b product_form (3 ∷ 2 ∷ []) (3 ∷ []) (3 ∷ 2 ∷ 4 ∷ []) product_state (pos 1 over pos 1) (pos 1 over pos 1) (pos 3 over pos 1) (pos 3 over pos 1) (pos 9 over pos 1)
+pub product_numbers : Names system_b product_form (3 ∷ 2 ∷ []) (3 ∷ []) (3 ∷ 2 ∷ 4 ∷ []) product_state (pos 1 over pos 1) (pos 1 over pos 1) (pos 3 over pos 1) (pos 3 over pos 1) (pos 9 over pos 1)
 unfolding named_from apply transformation_by interval_by stored rows_in rows_b gcd gcd_by gcd4 multiply_of pseudoinverse_of image_of cancel_of apply_two on_two scale_pair
 product_numbers = record {
   first_number = times 2 (omega arith) refl;
@@ -124,23 +124,13 @@ product_numbers = record {
   given_number = times 4 (omega arith) refl;
 }
 
-difference_numbers : Names system_r difference_form (eleven ++ 1 ∷ []) eleven [] difference_state (pos 1 over pos 1) (pos 2 over pos 1) (pos 233 over pos 377) (pos 233 over pos 377) (pos 0 over pos 1)
+pub difference_numbers : Names system_r difference_form (eleven ++ 1 ∷ []) eleven [] difference_state (pos 1 over pos 1) (pos 2 over pos 1) (pos 233 over pos 377) (pos 233 over pos 377) (pos 0 over pos 1)
 unfolding named_from apply transformation_by interval_by stored apply_two on_two scale_pair
 difference_numbers = record {
   first_number = times 1 (omega arith) refl;
   second_number = times 1 (omega arith) refl;
   operation = times 142129 (omega arith) refl;
   given_number = times 142129 (omega arith) refl;
-}
-
-pub worked_pairs : WorkedPairs
-worked_pairs = record {
-  sum = sum_ends;
-  sum_names = sum_numbers;
-  product = product_ends;
-  product_names = product_numbers;
-  difference = difference_ends;
-  difference_names = difference_numbers;
 }
 
 -- ---- what the theorems on sessions say of the sum
