@@ -24,7 +24,7 @@ module _ {a b : ℕ} {f : List ℤ} {m : Form} (v : Within a f) (w : WithinForm 
   unfolding into_y
   into_y_within = record { over = multiply_within w.over v; under = multiply_within w.under v }
 
-  -- P-as-X is the products of P with two halves
+  -- P·X is the products of P with two halves
   pub times_within : WithinForm (a * b + a * b) (times_form f m)
   unfolding times_form multiply_of
   times_within =

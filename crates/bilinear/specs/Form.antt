@@ -50,7 +50,7 @@ into_x m f = form (multiply_of (turned_over f) m.numerator) (multiply_of (turned
 unfoldable pub into_y : Form → List ℤ → Form
 into_y m f = form (multiply_of m.numerator f) (multiply_of m.denominator f)
 
--- P-as-X: the matrix [k, l, ..] makes k times the numerator and l times the denominator the new numerator, and so on
+-- P·X: the matrix [k, l, ..] makes k times the numerator and l times the denominator the new numerator, and so on
 abbrev pub mixed_rows : ℤ → ℤ → List ℤ → List ℤ → List ℤ
 mixed_rows k l u v =
     (k *ℤ at u 0 +ℤ l *ℤ at v 0) ∷ (k *ℤ at u 1 +ℤ l *ℤ at v 1) ∷ (k *ℤ at u 2 +ℤ l *ℤ at v 2) ∷ (k *ℤ at u 3 +ℤ l *ℤ at v 3) ∷ []
@@ -62,7 +62,7 @@ times_form p m = form (mixed_rows (at p 0) (at p 1) m.numerator m.denominator) (
 abbrev pub given_form : List ℤ → Form → Form
 given_form g m = times_form (pseudoinverse_of g) m
 
--- ---- how the code multiplies: P-as-X is the product of P with each of two matrices
+-- ---- how the code multiplies: P·X is the product of P with each of two matrices
 
 -- the coefficients of xy and x, above and below; and those of y and 1
 abbrev pub front_of : Form → List ℤ

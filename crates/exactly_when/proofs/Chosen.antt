@@ -1,6 +1,6 @@
--- "Some U_b includes X·W_held: let b be the smallest", and "No U_b does": the digit that the step chooses is the smallest whose interval includes X-as-W_held, in the sense of
+-- "Some U_b includes X·W_held: let b be the smallest", and "No U_b does": the digit that the step chooses is the smallest whose interval includes X·W_held, in the sense of
 -- the sentence "every point inside I is inside J", and none is chosen exactly if none does.
--- The argument: the choice is the first number that passes the test of inclusion (`fitting_exactly`, crates/fitting). X-as-W_held and U_b are intervals, since det X > 0 and the digits are digits; so the test
+-- The argument: the choice is the first number that passes the test of inclusion (`fitting_exactly`, crates/fitting). X·W_held and U_b are intervals, since det X > 0 and the digits are digits; so the test
 -- says the sentence (crates/inclusion).
 use Rattle.whole.proofs.Laws.{◌≡◌, sym, ◌∙◌, Bool, true, false, true≢false, List, ◌↔◌, Option, none, some, ℕ, ◌<◌, arith, ℤ, false_by}
 use Rattle.plane.proofs.Laws.{DetAbove, Interval, image_of, interval_moves}
@@ -14,7 +14,7 @@ use Rattle.meaning.specs.Moments.{Fits}
 use Rattle.exactly_when.specs.Lines.{Choice}
 
 module _ (y : Setting) (inputs : Digits y.input) (outputs : Digits y.output) (s : State) (above : DetAbove s.matrix) (h : ℕ) (held : h < y.input.count) where
-  -- X-as-W_held
+  -- X·W_held
   abbrev moved : List ℤ
   moved = image_of s.matrix (interval y.input h)
 

@@ -1,5 +1,5 @@
 -- When a step does what, when a run ends how, and when it is refused: document 01's sentences, proved both ways. Laws is the front door.
---   Chosen           the digit that is chosen is the smallest whose interval includes X-as-W_held
+--   Chosen           the digit that is chosen is the smallest whose interval includes X·W_held
 --   Leaving          an entry leaves the range exactly if the test of the range fails
 --   StepExactly      the step does v exactly if one of the five lines says so
 --   RefusedExactly   a run is refused by n exactly if the sentence of n holds

@@ -1,5 +1,5 @@
 -- "One step, first line that applies": the step does v exactly if one of document 01's five lines says so. Each line, where it applies, is what the step computes
--- (`line_only`); and some line always applies (`some-line`): a digit is held or none, a byte is there or none, it is a digit or none, some U_b includes X-as-W_held or none
+-- (`line_only`); and some line always applies: a digit is held or none, a byte is there or none, it is a digit or none, some U_b includes X·W_held or none
 -- does, there is room or none, there is a place in the list or none, an entry leaves the range or none.
 use Rattle.whole.proofs.Laws.{◌≡◌, refl, sym, subst, List, [], ◌∷◌, inl, inr, ◌↔◌, Option, none, some, ℕ, suc, ◌-◌, ◌<◌, dec_lt, eq-zero-or-pos, arith, le-ltb, lt-ltb, says_within}
 use Rattle.runs.proofs.Laws.{Supply, Outcome, follow}

@@ -56,7 +56,7 @@ pub data Line (y : Setting) (s : State) (r : Supply) : Outcome State Stop → Ty
   no_digit : s.held ≡ Nothing → (b : ℕ) (rest : List ℕ) → r.x ≡ b ∷ rest → y.input.count ≤ b → Line y s r (halts NotADigit)
   -- 3. "Nothing held: take the byte as the held digit. X stays."
   takes : s.held ≡ Nothing → (b : ℕ) (rest : List ℕ) → r.x ≡ b ∷ rest → b < y.input.count → Line y s r (goes (loaded s b) (took_x b))
-  -- 4. "Some U_b includes X-as-W_held: let b be the smallest. No room in the output: stop, end 20. Else X becomes pseudoinverse(G_b)·X, cancelled;
+  -- 4. "Some U_b includes X·W_held: let b be the smallest. No room in the output: stop, end 20. Else X becomes pseudoinverse(G_b)·X, cancelled;
   -- if an entry leaves the range: stop, end 22; else write b." The list is asked for in between, and the divisor stands in it.
   no_room : (h : ℕ) → s.held ≡ Digit h → (b : ℕ) → Smallest y s h b → r.room ≡ 0 → Line y s r (halts NoRoom)
   giving_unlisted : (h : ℕ) → s.held ≡ Digit h → (b : ℕ) → Smallest y s h b → 0 < r.room → r.list ≡ 0 → Line y s r (halts ListFull)

@@ -3,8 +3,8 @@
 -- Write C for the matrix of the first state, X for that of the last, P for the product of the digits given out in between and Q for that of the digits absorbed.
 --   here:      X is C, nothing is taken and nothing given out: P and Q are 1, and the scale too.
 --   loading:   X stays. The byte is held, not absorbed, and what is asked of the numbers only gets stronger: the held digit is asked for besides.
---   giving b:  k·(P-as-X) = d·(C-as-Q) goes on by `gave_scale`. For the digits before b nothing changes, since G_b(X'(t)) is X(t) again, as a point. For b itself: t lies in
---              closed W_held, so X(t) lies in closed X-as-W_held, and so in closed U_b, which includes it. This is why a digit that was given out never has to be recalled.
+--   giving b:  k·(P·X) = d·(C·Q) goes on by `gave_scale`. For the digits before b nothing changes, since G_b(X'(t)) is X(t) again, as a point. For b itself: t lies in
+--              closed W_held, so X(t) lies in closed X·W_held, and so in closed U_b, which includes it. This is why a digit that was given out never has to be recalled.
 --   absorbing: the equation goes on by `absorbed_scale`; and what is claimed at t is what was claimed before at F_h(t), since X'(t) is X(F_h(t)), as a point.
 use Rattle.whole.proofs.Laws.{◌≡◌, refl, sym, ◌∙◌, ap, subst, List, [], ◌∷◌, ◌++◌, append-nil, append_assoc, Option, none, some, ℕ, ◌*◌, ◌<◌, arith, ltb-true, ltb, length, ℤ, pos, ◌<ℤ◌, gcd4, ps_mul, up<}
 use Rattle.plane.proofs.Laws.{Pair, apply, multiply_of, cancel_of, Closed, scale_of, DetAbove, multiply_identity_left, multiply_identity_right, det_above_multiply, det_above_pseudoinverse, cancel_det_above, divisor_above, interval_moves, closed_moves, closed_same}

@@ -1,8 +1,8 @@
 -- What one step does to the product and to the numbers, of any matrices.
--- Write P for the product of the output digits, X for the state, C for M cancelled and Q for the product of the absorbed digits, and let k·(P-as-X) = d·(C-as-Q).
---   b is given out:   X becomes X' with g·X' = pseudoinverse(G_b)·X, and P becomes P-as-G_b. So g·(P·G_b·X') = P·G_b·pseudoinverse(G_b)·X = det G_b·(P-as-X): k grows by g, and
+-- Write P for the product of the output digits, X for the state, C for M cancelled and Q for the product of the absorbed digits, and let k·(P·X) = d·(C·Q).
+--   b is given out:   X becomes X' with g·X' = pseudoinverse(G_b)·X, and P becomes P·G_b. So g·(P·G_b·X') = P·G_b·pseudoinverse(G_b)·X = det G_b·(P·X): k grows by g, and
 --                     d by det G_b. And G_b(X'(t)) is X(t) again, as a point.
---   h is absorbed:    X becomes X' with g·X' = X-as-F_h, and Q becomes Q-as-F_h. So g·(P·X') = (P-as-X)·F_h: k grows by g. And X'(t) is X(F_h(t)), as a point.
+--   h is absorbed:    X becomes X' with g·X' = X·F_h, and Q becomes Q·F_h. So g·(P·X') = (P·X)·F_h: k grows by g. And X'(t) is X(F_h(t)), as a point.
 use Rattle.whole.proofs.Laws.{◌≡◌, sym, ◌∙◌, ap, subst, List, ℕ, ◌*◌, ℤ, pos, ◌*ℤ◌, gcd4, ◌⊗◌, ◌≗◌, law, up<}
 use Rattle.plane.proofs.Laws.{Pair, SamePoint, apply, determinant_of, pseudoinverse_of, multiply_of, cancel_of, scale_of, DetAbove, above_not_0, multiply_assoc, multiply_scale_left, multiply_scale_right, scale_scale, multiply_pseudoinverse, times_entries, cancel_times, apply_multiply, det_above_multiply, det_above_pseudoinverse, same_sym, same_trans, same_moves, same_redone, same_scaled, cancel_says}
 use Rattle.meaning.specs.Names.{UpToScale}

@@ -61,7 +61,7 @@ cancelled_word = called_again (newly_opened b_admitted b_admitted refl) (1 ∷ [
 
 -- ---- the product, in plain numbers
 
--- the product of the divisors, 1·2, times (G_1-as-X) is 2 2 0 4, since it is det G_1 times (M-as-F_1)
+-- the product of the divisors, 1·2, times (G_1·X) is 2 2 0 4, since it is det G_1 times (M·F_1)
 pub cancelled_scale : (scale_of (pos (times_all (1 ∷ 2 ∷ []))) (multiply_of (product_of system_b (1 ∷ [])) (four 1 0 0 1)) ≡ four 2 2 0 4) ×
     (scale_of (determinants_of system_b (1 ∷ [])) (multiply_of (cancel_of (four 1 0 0 1)) (product_of system_b (1 ∷ []))) ≡ four 2 2 0 4)
 unfolding scale_of multiply_of product_of determinants_of times_all determinant_of cancel_of gcd4 gcd gcd_by transformation_by interval_by stored rows_in rows_b

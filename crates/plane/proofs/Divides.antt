@@ -1,7 +1,7 @@
--- The divisor of a step divides the determinant of the step's digit. A step makes X-as-F_held, or pseudoinverse(G_b)·X, of a state's matrix X, which is in lowest terms, and
+-- The divisor of a step divides the determinant of the step's digit. A step makes X·F_held, or pseudoinverse(G_b)·X, of a state's matrix X, which is in lowest terms, and
 -- cancels it (document 01): "To cancel a matrix, divide it by the greatest common divisor of the four entries." So that divisor need not be looked for among all numbers.
--- The argument: for Y = X-as-F, Y·pseudoinverse(F) = det F-as-X; for Y = pseudoinverse(G)·X, G-as-Y = det G-as-X. What divides Y, Y = k·Y', goes through either product. So it divides
--- det F-as-X, or det G-as-X, and the greatest common divisor of that, which is det F, or det G, times the one of X, and this is 1.
+-- The argument: for Y = X·F, Y·pseudoinverse(F) = det F·X; for Y = pseudoinverse(G)·X, G·Y = det G·X. What divides Y, Y = k·Y', goes through either product. So it divides
+-- det F·X, or det G·X, and the greatest common divisor of that, which is det F, or det G, times the one of X, and this is 1.
 -- Private: `multiple`, `lowered`, `size`, `gcd4_scale`, `of_lowest`.
 use Rattle.whole.proofs.Laws.{◌≡◌, sym, ◌∙◌, ap, subst, List, ℕ, ◌*◌, ◌<◌, ◌∣◌, ℤ, pos, nat_abs, ◌<ℤ◌, ≤-of-<, down<, gcd4, divided, Divides4, gcd4_divides, gcd4_greatest, gcd4_times, Times4, up4, one4, divided_times}
 use native.Mathlib.Nat.{mul-one}

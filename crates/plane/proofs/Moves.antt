@@ -1,6 +1,6 @@
 -- A matrix of determinant above 0 keeps what document 01 says of points and intervals: z is inside W exactly if its image is inside W's image, the same for closed, the
 -- image of an interval is an interval, and the image of a point is a point.
--- The argument: every determinant of two images is the matrix's determinant D times that of the two pairs (`det_apply`), so the product that says "inside" grows by D-as-D
+-- The argument: every determinant of two images is the matrix's determinant D times that of the two pairs (`det_apply`), so the product that says "inside" grows by D·D
 -- and keeps its sign. For points: the pseudoinverse leads back from the image to D times the point.
 use Rattle.whole.proofs.Laws.{◌≡◌, sym, ◌∙◌, subst, List, ℤ, pos, ◌+ℤ◌, ◌*ℤ◌, ◌<ℤ◌, at, ◌⊕◌, ◌⊗◌, #, ◌≗◌, law, ps_mul, ◌≺◌, ◌≈◌, never, h, ◌⊡◌, linear, ◌&◌, ◌⇒◌, ◌from◌, claim}
 use Rattle.plane.specs.Plane.{Pair, Point, det, left, right, apply, determinant_of, pseudoinverse_of, multiply_of, image_of, Interval, Inside, Closed}

@@ -61,7 +61,7 @@ pub record Inside (w : List ℤ) (z : Pair) : Type 0 where
 pub record Closed (w : List ℤ) (z : Pair) : Type 0 where
   pub not_below : pos 0 ≤ℤ (det (left w) z *ℤ det z (right w))
 
--- X-as-W: the interval whose ends are the images of W's ends
+-- X·W: the interval whose ends are the images of W's ends
 unfoldable pub image_of : List ℤ → List ℤ → List ℤ
 image_of m w = (apply m (left w)).z0 ∷ (apply m (left w)).z1 ∷ (apply m (right w)).z0 ∷ (apply m (right w)).z1 ∷ []
 

@@ -9,7 +9,7 @@ use Rattle.steps.specs.Step.{DivisorNumber}
 use Rattle.steps.specs.Made.{Factors, WorksWith}
 
 module _ {x f : List ℤ} (in_range : Within 1000000000 x) (cancelled : gcd4 x ≡ 1) (small : Within 100 f) (above : pos 0 <ℤ determinant_of f) where
-  -- X-as-F
+  -- X·F
   pub right_factors : Factors x f (nat_abs (determinant_of f))
   right_factors = record {
     first = in_range;

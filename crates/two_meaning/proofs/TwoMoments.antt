@@ -3,7 +3,7 @@
 -- Write Op for the operation, X for the state's eight numbers, P for the product of the digits given out, Q_x and Q_y for those of the digits absorbed of each word.
 --   opened:     X is Op, nothing is taken and nothing given out: P, Q_x and Q_y are 1.
 --   loading:    X stays. The byte is held, not absorbed, and what is asked of the numbers only gets stronger: the held digit is asked for besides.
---   giving c:   P-as-X is Op(Q_x x, Q_y y) up to a positive scale, and stays it (`gave_product`). For the digits before c nothing changes, since G_c(X'(r, t)) is X(r, t) again, as
+--   giving c:   P·X is Op(Q_x x, Q_y y) up to a positive scale, and stays it (`gave_product`). For the digits before c nothing changes, since G_c(X'(r, t)) is X(r, t) again, as
 --               a point. For c itself: r and t lie in the closed intervals of the held digits, so X(r, t) lies in closed U_c by the test (`given_says`).
 --   absorbing:  the equation goes on by `absorbed_x_product` or `absorbed_y_product`; and what is claimed at r and t is what was claimed before at F_a(r) and t, or at r and
 --               F_a(t), since X' of the two is X of those, as a point.

@@ -75,14 +75,14 @@ pub up_same : {m n : Form} → UpToScaleForm m n → (x y : Pair) → SamePoint 
 up_same {m} {n} u x y = same_point (pos u.p) (pos u.q) (above_not_0 (up< u.p_above)) (above_not_0 (up< u.q_above))
     (sym (apply_scale_form (pos u.p) m x y) ∙ ap (λ (f : Form). apply_two f x y) u.equal ∙ apply_scale_form (pos u.q) n x y)
 
--- ---- each kind of step, where P-as-X is Op(Q_x x, Q_y y) up to a positive scale
+-- ---- each kind of step, where P·X is Op(Q_x x, Q_y y) up to a positive scale
 
--- c is given out: P becomes P-as-G_c
+-- c is given out: P becomes P·G_c
 pub gave_product : (p g : List ℤ) (x r : Form) → UpToScaleForm (times_form g (cancel_form (given_form g x))) x → UpToScaleForm (times_form p x) r →
     UpToScaleForm (times_form (multiply_of p g) (cancel_form (given_form g x))) r
 gave_product p g x r u v = up_trans (up_equal (sym (times_twice p g (cancel_form (given_form g x))))) (up_trans (up_times p u) v)
 
--- a is absorbed, in x or in y: Q_x becomes Q_x-as-F_a, or Q_y does
+-- a is absorbed, in x or in y: Q_x becomes Q_x·F_a, or Q_y does
 pub absorbed_x_product : (p f qx qy : List ℤ) (x op : Form) → UpToScaleForm (cancel_form (into_x x f)) (into_x x f) →
     UpToScaleForm (times_form p x) (into_y (into_x op qx) qy) → UpToScaleForm (times_form p (cancel_form (into_x x f))) (into_y (into_x op (multiply_of qx f)) qy)
 absorbed_x_product p f qx qy x op u v =

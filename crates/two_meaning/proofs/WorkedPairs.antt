@@ -141,7 +141,7 @@ unfolding stored admission_of rows_verdict row_verdict within? gcd gcd4 gcd_by t
     may_give? giving_of two_state? two_refusal refusal_by two_course
 sum_session = called_again_two (newly_opened_two d_admitted d_admitted adding) half (third ++ 0 ∷ []) (replicate 9 0)
 
--- P-as-X is 0 1 2 854 ; 0 0 0 1024, and the sum with the absorbed digits in front is 512 times that
+-- P·X is 0 1 2 854 ; 0 0 0 1024, and the sum with the absorbed digits in front is 512 times that
 pub sum_product : UpToScaleForm (form (four (pos 0) (pos 1) (pos 2) (pos 854)) (four (pos 0) (pos 0) (pos 0) (pos 1024)))
     (form (four (pos 0) (pos 512) (pos 1024) (pos 437248)) (four (pos 0) (pos 0) (pos 0) (pos 524288)))
 unfolding product_of multiply_of into_x into_y times_form transformation_by interval_by stored

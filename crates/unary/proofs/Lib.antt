@@ -1,5 +1,5 @@
 -- The unary algorithm, as theorems. Laws is the front door.
---   Runs        in-range, written-only, refused-untouched, few-steps
+--   Runs        in_range, written_only, refused_untouched, few_steps
 --   Again       a stopped run stops again; a run may be cut anywhere, in its input and in its room
 --   SameRun     the same digits make the same run, wherever their numbers stand and whatever is kept for digits that a system hasn't got
 --   BothOrders  so a run is the same over rows and over their columns

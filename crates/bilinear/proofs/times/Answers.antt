@@ -1,4 +1,4 @@
--- `bilinear::times` meets its contract: the halves of P-as-X are the products of P with the halves of X.
+-- `bilinear::times` meets its contract: the halves of P·X are the products of P with the halves of X.
 use Rattle.whole.proofs.Laws.{sym, ◌∙◌, ap, ap₂, subst, Within}
 use Rattle.plane.proofs.Laws.{multiply_of}
 use Rattle.products.proofs.Laws.{factors_fit}

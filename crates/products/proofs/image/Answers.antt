@@ -1,4 +1,4 @@
--- `products::image` meets its contract: the product's columns are the images of the ends, and written as rows they are X-as-W.
+-- `products::image` meets its contract: the product's columns are the images of the ends, and written as rows they are X·W.
 use Rattle.whole.proofs.Laws.{◌≡◌, ◌∙◌, ap, List, [], ◌∷◌, ℤ, at, within_le, back, near_back, ok_back}
 use Rattle.plane.proofs.Laws.{multiply_of, apply, image_of, four_equal}
 use Rattle.products.proofs.Words.{factors_fit}
