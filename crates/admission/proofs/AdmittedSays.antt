@@ -10,8 +10,8 @@ use Rattle.whole.proofs.Laws.{◌≡◌, refl, sym, ◌∙◌, ap, ap₂, subst,
 use Rattle.digits.proofs.Laws.{System, interval, transformation, Small}
 use Rattle.cover.proofs.Laws.{covered?, CoverSays, cover_says, one_digit}
 use Rattle.expanding.proofs.Laws.{all_expand?, AllExpandSays, all_expand_says, SmallRows}
-use Rattle.admission.specs.Types.{Admission, Admitted, WrongCount, OutOfRange, NotAbove, NotBelow, NotLowest, Uncovered, NotExpanding}
-use Rattle.admission.specs.Admission.{refused?, verdict_of_row, behind_rows, first_verdict, rows_verdict, admission_of}
+use Rattle.admission.specs.Types.{Admission, Admitted, Ok, Err, WrongCount, OutOfRange, NotAbove, NotBelow, NotLowest, Uncovered, NotExpanding}
+use Rattle.admission.specs.Admission.{refusal_number, refused?, SystemNumber, verdict_of_row, behind_rows, first_verdict, rows_verdict, admission_of}
 use Rattle.admission.specs.Admitted.{DigitAt, Digits, Full, Admissible, RowCase, FirstRow, SystemCase}
 use Rattle.admission.proofs.Numbers.{not_refused}
 use Rattle.admission.proofs.RowSays.{row_says, row_only}
@@ -47,7 +47,7 @@ digits_expand s d = all_expand_says s (λ a h. (d a h).above) (λ a h. (d a h).i
 -- ---- where a sentence holds, its answer is given
 
 -- the count is wrong, and the count is right
-pub wrong_count : (s : System) → (s.count ≡ 0) ⊎ (16 < s.count) → WrongCount ≡ admission_of s
+pub wrong_count : (s : System) → (s.count ≡ 0) ⊎ (16 < s.count) → Err WrongCount ≡ admission_of s
 unfolding admission_of
 wrong_count s (inl e) = rw (lt-leb 1 s.count (omega arith))
 wrong_count s (inr h) = rw (le-leb 1 s.count (omega arith), lt-leb s.count 16 h)
@@ -77,47 +77,46 @@ all_digits s e h k d =
     e ∙ ap (first_verdict s) (sym none) ∙ counted s h k
 
 -- no point is left out: whether every row expands decides
-all_covered : (s : System) {t : Bool} → all_expand? s ≡ t → 1 ≤ s.count → s.count ≤ 16 → Digits s → Full s → cond t Admitted NotExpanding ≡ admission_of s
+all_covered : (s : System) {t : Bool} → all_expand? s ≡ t → 1 ≤ s.count → s.count ≤ 16 → Digits s → Full s → cond t Admitted (Err NotExpanding) ≡ admission_of s
 all_covered s e h k d full = all_digits s (sym (ap₂ behind_rows ((digits_cover s h d).full.1 full) e)) h k d
 
 pub admitted_only : (s : System) (v : Admission) → SystemCase s v → v ≡ admission_of s
-admitted_only s Admitted c = all_covered s ((digits_expand s c.digits).all.1 c.expand) c.some_digits c.few_digits c.digits c.cover
-admitted_only s WrongCount c = wrong_count s c
-admitted_only s OutOfRange c = first_row OutOfRange refl c
-admitted_only s NotAbove c = first_row NotAbove refl c
-admitted_only s NotBelow c = first_row NotBelow refl c
-admitted_only s NotLowest c = first_row NotLowest refl c
-admitted_only s Uncovered c =
+admitted_only s (Ok u) c = all_covered s ((digits_expand s c.digits).all.1 c.expand) c.some_digits c.few_digits c.digits c.cover
+admitted_only s (Err WrongCount) c = wrong_count s c
+admitted_only s (Err OutOfRange) c = first_row (Err OutOfRange) refl c
+admitted_only s (Err NotAbove) c = first_row (Err NotAbove) refl c
+admitted_only s (Err NotBelow) c = first_row (Err NotBelow) refl c
+admitted_only s (Err NotLowest) c = first_row (Err NotLowest) refl c
+admitted_only s (Err Uncovered) c =
     let says = digits_cover s c.some_digits c.digits in
     all_digits s (ap (λ (t : Bool). behind_rows t (all_expand? s)) (sym (says.gap.1 (c.z, c.point, c.in_none)))) c.some_digits c.few_digits c.digits
-admitted_only s NotExpanding c =
+admitted_only s (Err NotExpanding) c =
     all_covered s ((digits_expand s c.digits).one_fails.1 (c.row, c.below, c.fails)) c.some_digits c.few_digits c.digits c.cover
+admitted_only s (Err r) c = absurd c
 
 -- ---- and some sentence holds
 
 -- the answer about a row that is refused is the answer about the system
 refused_first : {s : System} (v : Admission) → refused? v ≡ true → FirstRow s v → SystemCase s v
-refused_first Admitted e f = absurd (false≢true e)
-refused_first WrongCount e f = absurd f.says
-refused_first OutOfRange e f = f
-refused_first NotAbove e f = f
-refused_first NotBelow e f = f
-refused_first NotLowest e f = f
-refused_first Uncovered e f = absurd f.says
-refused_first NotExpanding e f = absurd f.says
+refused_first (Ok u) e f = absurd (false≢true e)
+refused_first (Err OutOfRange) e f = f
+refused_first (Err NotAbove) e f = f
+refused_first (Err NotBelow) e f = f
+refused_first (Err NotLowest) e f = f
+refused_first (Err r) e f = absurd f.says
 
 module _ (s : System) (h : 1 ≤ s.count) (k : s.count ≤ 16) where
   by_expanding : (t : Bool) → all_expand? s ≡ t → Digits s → Full s → (v : Admission) × SystemCase s v
   by_expanding true e d full = (Admitted, record { some_digits = h; few_digits = k; digits = d; cover = full; expand = (digits_expand s d).all.0 e })
   by_expanding false e d full =
       let o = (digits_expand s d).one_fails.0 e in
-      (NotExpanding, record { some_digits = h; few_digits = k; digits = d; cover = full; row = o.0; below = o.1; fails = o.2 })
+      (Err NotExpanding, record { some_digits = h; few_digits = k; digits = d; cover = full; row = o.0; below = o.1; fails = o.2 })
 
   by_cover : (t : Bool) → covered? s ≡ t → Digits s → (v : Admission) × SystemCase s v
   by_cover true e d = by_expanding (all_expand? s) refl d ((digits_cover s h d).full.0 e)
   by_cover false e d =
       let u = (digits_cover s h d).gap.0 e in
-      (Uncovered, record { some_digits = h; few_digits = k; digits = d; z = u.0; point = u.1; in_none = u.2 })
+      (Err Uncovered, record { some_digits = h; few_digits = k; digits = d; z = u.0; point = u.1; in_none = u.2 })
 
   by_first : (o : Option ℕ) → first (refused_at s) s.count 0 ≡ o → (v : Admission) × SystemCase s v
   by_first none e = by_cover (covered? s) refl (λ a l. digit_says s a (first_none (refused_at s) s.count 0 e a (omega arith) (omega arith)))
@@ -136,10 +135,10 @@ module _ (s : System) (h : 1 ≤ s.count) (k : s.count ≤ 16) where
 
 some_case : (s : System) → (v : Admission) × SystemCase s v
 some_case s = elim (eq-zero-or-pos s.count) [
-  | inl e ↦ (WrongCount, inl e)
+  | inl e ↦ (Err WrongCount, inl e)
   | inr h ↦ elim (eq-zero-or-pos (s.count - 16)) [
     | inl e ↦ by_first s h (omega arith) (first (refused_at s) s.count 0) refl
-    | inr l ↦ (WrongCount, inr (omega arith))
+    | inr l ↦ (Err WrongCount, inr (omega arith))
   ]
 ]
 
@@ -148,6 +147,43 @@ admitted_says s = let c = some_case s in subst (SystemCase s) (admitted_only s c
 
 pub admitted_exactly : (s : System) (v : Admission) → (admission_of s ≡ v) ↔ SystemCase s v
 admitted_exactly s v = (λ e. subst (SystemCase s) e (admitted_says s), λ c. sym (admitted_only s v c))
+
+-- the answers of a judgement of a system: nothing is refused, or one of seven refusals; and their numbers, 0 or one of those that refuse a system
+abbrev pub SystemAnswer : Admission → Type 0
+SystemAnswer (Ok u) = Unit {0}
+SystemAnswer (Err WrongCount) = Unit {0}
+SystemAnswer (Err OutOfRange) = Unit {0}
+SystemAnswer (Err NotAbove) = Unit {0}
+SystemAnswer (Err NotBelow) = Unit {0}
+SystemAnswer (Err NotLowest) = Unit {0}
+SystemAnswer (Err Uncovered) = Unit {0}
+SystemAnswer (Err NotExpanding) = Unit {0}
+SystemAnswer (Err r) = ⊥
+
+pub answer_number : (v : Admission) → SystemAnswer v → (refusal_number v ≡ 0) ⊎ SystemNumber (refusal_number v)
+answer_number (Ok u) c = inl refl
+answer_number (Err WrongCount) c = inr (inl refl)
+answer_number (Err OutOfRange) c = inr (inr (inl (omega arith, omega arith)))
+answer_number (Err NotAbove) c = inr (inr (inl (omega arith, omega arith)))
+answer_number (Err NotBelow) c = inr (inr (inl (omega arith, omega arith)))
+answer_number (Err NotLowest) c = inr (inr (inl (omega arith, omega arith)))
+answer_number (Err Uncovered) c = inr (inr (inl (omega arith, omega arith)))
+answer_number (Err NotExpanding) c = inr (inr (inr refl))
+answer_number (Err r) c = absurd c
+
+case_answer : (s : System) (v : Admission) → SystemCase s v → SystemAnswer v
+case_answer s (Ok u) c = tt
+case_answer s (Err WrongCount) c = tt
+case_answer s (Err OutOfRange) c = tt
+case_answer s (Err NotAbove) c = tt
+case_answer s (Err NotBelow) c = tt
+case_answer s (Err NotLowest) c = tt
+case_answer s (Err Uncovered) c = tt
+case_answer s (Err NotExpanding) c = tt
+case_answer s (Err r) c = c
+
+pub admission_number : (s : System) → (refusal_number (admission_of s) ≡ 0) ⊎ SystemNumber (refusal_number (admission_of s))
+admission_number s = answer_number (admission_of s) (case_answer s (admission_of s) (admitted_says s))
 
 -- no two of document 01's sentences hold of one system
 pub one_sentence : (s : System) (v w : Admission) → SystemCase s v → SystemCase s w → v ≡ w

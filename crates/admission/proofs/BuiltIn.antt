@@ -6,7 +6,7 @@ use Rattle.plane.proofs.Laws.{apply, determinant_of}
 use Rattle.inclusion.proofs.Laws.{closed?, same?}
 use Rattle.expanding.proofs.Laws.{form_of, expands?}
 use Rattle.digits.proofs.Laws.{transformation_by, interval_by, rows_r, rows_d, rows_b, stored, system_of}
-use Rattle.admission.specs.Types.{Admission, Admitted, WrongCount, Uncovered, NotExpanding}
+use Rattle.admission.specs.Types.{Admission, Admitted, Err, WrongCount, Uncovered, NotExpanding}
 use Rattle.admission.specs.Admission.{refusal_number, refused?, row_verdict, rows_verdict, admission_of}
 use Rattle.admission.specs.Admitted.{Admissible}
 use Rattle.admission.specs.Named.{identities, plain_binary}
@@ -59,20 +59,20 @@ b_admitted = built_in_admitted.1.1.0
 
 pub record Judged : Type 0 where
   -- "P11 R without row 3: 10."
-  pub p11 : admission_of_table (take 3 rows_r) ≡ Uncovered
+  pub p11 : admission_of_table (take 3 rows_r) ≡ Err Uncovered
   pub p11_number : refusal_number (admission_of_table (take 3 rows_r)) ≡ 10
   -- "Document 01's last run becomes a refusal", and the plain binary system "is now refused"
-  pub two_identities : admission_of_table identities ≡ NotExpanding
-  pub plain_binary_lem : admission_of_table plain_binary ≡ NotExpanding
+  pub two_identities : admission_of_table identities ≡ Err NotExpanding
+  pub plain_binary_lem : admission_of_table plain_binary ≡ Err NotExpanding
   pub expand_number : refusal_number (admission_of_table identities) ≡ 18
   -- equal digits twice; 16 digits, with and without equal ones; 17
   pub twice : admission_of_table (rows_r ++ rows_r) ≡ Admitted
   pub sixteen : admission_of_table (rows_b ++ rows_r ++ rows_d) ≡ Admitted
   pub sixteen_twice : admission_of_table (rows_b ++ rows_b) ≡ Admitted
-  pub seventeen : admission_of_table (rows_b ++ rows_b ++ take 1 rows_b) ≡ WrongCount
+  pub seventeen : admission_of_table (rows_b ++ rows_b ++ take 1 rows_b) ≡ Err WrongCount
   -- no digit, and one digit (`one_digit_refused` has it of any digit)
-  pub no_digit : admission_of_table [] ≡ WrongCount
-  pub one_digit : admission_of_table (take 1 rows_r) ≡ Uncovered
+  pub no_digit : admission_of_table [] ≡ Err WrongCount
+  pub one_digit : admission_of_table (take 1 rows_r) ≡ Err Uncovered
 
 pub judged : Judged
 unfolding admission_of rows_verdict row_verdict within? determinant_of gcd gcd4 gcd_by transformation_by interval_by first closed? same? apply form_of expands? rows_b stored

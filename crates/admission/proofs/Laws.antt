@@ -1,9 +1,9 @@
 -- What the crates above may use of this one.
 -- each answer is given exactly when document 01's sentence holds: of a row, and of a system
 pub use Rattle.admission.proofs.RowSays.{row_says, row_only, row_exactly}
-pub use Rattle.admission.proofs.AdmittedSays.{admitted_says, admitted_only, admitted_exactly, one_sentence, admitted_few, admitted_digits, small, one_digit_not_admissible, one_digit_refused}
--- the numbers of refusal
-pub use Rattle.admission.proofs.Numbers.{number_0, not_refused, admission_number}
+pub use Rattle.admission.proofs.AdmittedSays.{admitted_says, admitted_only, admitted_exactly, SystemAnswer, answer_number, admission_number, one_sentence, admitted_few, admitted_digits, small, one_digit_not_admissible, one_digit_refused}
+-- only "admitted" has the number 0
+pub use Rattle.admission.proofs.Numbers.{number_0, not_refused}
 -- what is kept for digits that a system hasn't got
 pub use Rattle.admission.proofs.SameDigits.{same_judgement, same_admission}
 -- R, D and B, and single systems

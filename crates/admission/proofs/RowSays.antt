@@ -8,7 +8,7 @@
 use Rattle.whole.proofs.Laws.{◌≡◌, refl, sym, subst, Bool, true, false, ◌&&◌, false≢true, List, ◌⊎◌, inl, inr, ◌↔◌, ℕ, ◌∣◌, eqb-true, eq-eqb, eqb, ℤ, pos, nat_abs, at, gcd, gcd4, gcd_divides_left, gcd_divides_right, gcd_greatest, gcd4_divides, gcd4_greatest, <-or-≥, true_lt, false_lt, both_true, true_both, false_by, within?, lowest?, within_says, says_within}
 use Rattle.plane.proofs.Laws.{determinant_of}
 use native.Mathlib.Nat.{eq-one_of_dvd-one}
-use Rattle.admission.specs.Types.{Admission, Admitted, WrongCount, OutOfRange, NotAbove, NotBelow, NotLowest, Uncovered, NotExpanding}
+use Rattle.admission.specs.Types.{Admission, Admitted, Ok, Err, OutOfRange, NotAbove, NotBelow, NotLowest}
 use Rattle.admission.specs.Admission.{lowest_ends?, row_verdict}
 use Rattle.admission.specs.Admitted.{InRange, Lowest, RowCase}
 
@@ -55,14 +55,12 @@ says_lowest {f} {w} h = true_both
 
 pub row_only : (f w : List ℤ) (v : Admission) → RowCase f w v → v ≡ row_verdict f w
 unfolding row_verdict determinant_of
-row_only f w Admitted d = rw (says_range d.in_range, true_lt d.above, true_lt d.interval.below, says_lowest d.lowest)
-row_only f w WrongCount c = absurd c
-row_only f w OutOfRange c = rw (false_by (within? 100 f && within? 100 w) (λ e. c (range_says f w e)))
-row_only f w NotAbove c = rw (says_range c.0, false_lt c.1)
-row_only f w NotBelow c = rw (says_range c.0, true_lt c.1, false_lt c.2)
-row_only f w NotLowest c = rw (says_range c.0, true_lt c.1, true_lt c.2.below, false_by (lowest? f && lowest_ends? w) (λ e. c.3 (lowest_says f w e)))
-row_only f w Uncovered c = absurd c
-row_only f w NotExpanding c = absurd c
+row_only f w (Ok u) d = rw (says_range d.in_range, true_lt d.above, true_lt d.interval.below, says_lowest d.lowest)
+row_only f w (Err OutOfRange) c = rw (false_by (within? 100 f && within? 100 w) (λ e. c (range_says f w e)))
+row_only f w (Err NotAbove) c = rw (says_range c.0, false_lt c.1)
+row_only f w (Err NotBelow) c = rw (says_range c.0, true_lt c.1, false_lt c.2)
+row_only f w (Err NotLowest) c = rw (says_range c.0, true_lt c.1, true_lt c.2.below, false_by (lowest? f && lowest_ends? w) (λ e. c.3 (lowest_says f w e)))
+row_only f w (Err r) c = absurd c
 
 -- ---- and some sentence holds: what a test asks is so, or is not
 
@@ -73,13 +71,13 @@ either false f g = inr (λ p. false≢true (g p))
 some_case : (f w : List ℤ) → (v : Admission) × RowCase f w v
 unfolding determinant_of
 some_case f w = elim (either (within? 100 f && within? 100 w) (range_says f w) says_range) [
-  | inr n ↦ (OutOfRange, n)
+  | inr n ↦ (Err OutOfRange, n)
   | inl r ↦ elim (<-or-≥ (pos 0) (determinant_of f)) [
-    | inr n ↦ (NotAbove, (r, n))
+    | inr n ↦ (Err NotAbove, (r, n))
     | inl a ↦ elim (<-or-≥ (determinant_of w) (pos 0)) [
-      | inr n ↦ (NotBelow, (r, a, n))
+      | inr n ↦ (Err NotBelow, (r, a, n))
       | inl b ↦ elim (either (lowest? f && lowest_ends? w) (lowest_says f w) says_lowest) [
-        | inr n ↦ (NotLowest, (r, a, record { below = b }, n))
+        | inr n ↦ (Err NotLowest, (r, a, record { below = b }, n))
         | inl l ↦ (Admitted, record { in_range = r; above = a; interval = record { below = b }; lowest = l })
       ]
     ]

@@ -6,7 +6,7 @@ use Rattle.whole.proofs.Laws.{◌≡◌, refl, sym, ◌∙◌, ap, ap₂, cond, 
 use Rattle.digits.proofs.Laws.{System, SameDigits, as_written, lent, columns_of, same_in_columns}
 use Rattle.cover.proofs.Laws.{same_covered}
 use Rattle.expanding.proofs.Laws.{same_expand}
-use Rattle.admission.specs.Types.{Admission, WrongCount}
+use Rattle.admission.specs.Types.{Admission, Err, WrongCount}
 use Rattle.admission.specs.Admission.{row_verdict, refused?, verdict_of_row, behind_rows, first_verdict, rows_verdict, admission_of}
 use Rattle.admission.proofs.AdmittedSays.{admitted_only}
 
@@ -31,13 +31,13 @@ module _ (s other : System) (same : SameDigits s (counted s.count other)) (few :
   same_judged =
       let after = same_after (first (λ a. refused? (verdict_of_row s a)) s.count 0) refl in
       let found = first_same (λ a. refused? (verdict_of_row s a)) (λ a. refused? (verdict_of_row t a)) s.count 0 (λ a i k. ap refused? (same_verdict a (omega arith))) in
-      ap (λ (v : Admission). cond (leb 1 s.count && leb s.count 16) v WrongCount) (after ∙ ap (first_verdict t) found)
+      ap (λ (v : Admission). cond (leb 1 s.count && leb s.count 16) v (Err WrongCount)) (after ∙ ap (first_verdict t) found)
 
 pub same_judgement : (s t : System) → SameDigits s t → admission_of s ≡ admission_of t
 same_judgement s t same = elim (eq-zero-or-pos (s.count - 16)) [
   | inl e ↦ same_judged s t (record { count = refl; transformations = same.transformations; intervals = same.intervals }) (omega arith) ∙
       ap (λ (n : ℕ). admission_of (counted n t)) same.count
-  | inr l ↦ sym (admitted_only s WrongCount (inr (omega arith))) ∙ admitted_only t WrongCount (inr (omega (arith, same.count)))
+  | inr l ↦ sym (admitted_only s (Err WrongCount) (inr (omega arith))) ∙ admitted_only t (Err WrongCount) (inr (omega (arith, same.count)))
 ]
 
 -- "admission .. answer[s] the same on both" orders

@@ -11,18 +11,12 @@ use Rattle.plane.specs.Plane.{determinant_of}
 use Rattle.digits.specs.System.{System, transformation, interval}
 use Rattle.cover.specs.Cover.{covered?}
 use Rattle.expanding.specs.Expanding.{all_expand?}
-use Rattle.admission.specs.Types.{Admission, Admitted, WrongCount, OutOfRange, NotAbove, NotBelow, NotLowest, Uncovered, NotExpanding}
+use Rattle.refusals.specs.Numbers.{outcome_number}
+use Rattle.admission.specs.Types.{Admission, Admitted, Err, WrongCount, OutOfRange, NotAbove, NotBelow, NotLowest, Uncovered, NotExpanding}
 
 -- The documents' number for each answer; 0 where nothing is refused.
 abbrev pub refusal_number : Admission → ℕ
-refusal_number Admitted = 0
-refusal_number WrongCount = 3
-refusal_number OutOfRange = 6
-refusal_number NotAbove = 7
-refusal_number NotBelow = 8
-refusal_number NotLowest = 9
-refusal_number Uncovered = 10
-refusal_number NotExpanding = 18
+refusal_number v = outcome_number v
 
 -- "3, 6 to 10", and 18: the numbers that refuse a system
 abbrev pub SystemNumber : ℕ → Type 0
@@ -41,10 +35,10 @@ row_verdict f w =
     cond (within? 100 f && within? 100 w)
     (cond (lt_z (pos 0) (determinant_of f))
     (cond (lt_z (determinant_of w) (pos 0))
-    (cond (lowest? f && lowest_ends? w) Admitted NotLowest)
-    NotBelow)
-    NotAbove)
-    OutOfRange
+    (cond (lowest? f && lowest_ends? w) Admitted (Err NotLowest))
+    (Err NotBelow))
+    (Err NotAbove))
+    (Err OutOfRange)
 
 abbrev pub verdict_of_row : System → ℕ → Admission
 verdict_of_row s a = row_verdict (transformation s a) (interval s a)
@@ -52,7 +46,7 @@ verdict_of_row s a = row_verdict (transformation s a) (interval s a)
 -- "then 10", and "18 .. directly after 10": the first row that is refused decides; where none is, the cover does (crates/cover), and where no point is left
 -- out, whether every row expands (crates/expanding)
 abbrev pub behind_rows : Bool → Bool → Admission
-behind_rows covered expanding = cond covered (cond expanding Admitted NotExpanding) Uncovered
+behind_rows covered expanding = cond covered (cond expanding Admitted (Err NotExpanding)) (Err Uncovered)
 
 abbrev pub first_verdict : System → Option ℕ → Admission
 first_verdict s none = behind_rows (covered? s) (all_expand? s)
@@ -63,4 +57,4 @@ rows_verdict s = first_verdict s (first (λ a. refused? (verdict_of_row s a)) s.
 
 -- "3: a system has 0 or more than 16 digits"; the rows are judged after that
 unfoldable pub admission_of : System → Admission
-admission_of s = cond (leb 1 s.count && leb s.count 16) (rows_verdict s) WrongCount
+admission_of s = cond (leb 1 s.count && leb s.count 16) (rows_verdict s) (Err WrongCount)

@@ -9,7 +9,7 @@ use Rattle.plane.specs.Plane.{Pair, Point, determinant_of, Interval}
 use Rattle.digits.specs.System.{System, transformation, interval}
 use Rattle.cover.specs.Cover.{Covers}
 use Rattle.expanding.specs.Expanding.{AllExpand, FailsToExpand}
-use Rattle.admission.specs.Types.{Admission, Admitted, WrongCount, OutOfRange, NotAbove, NotBelow, NotLowest, Uncovered, NotExpanding}
+use Rattle.admission.specs.Types.{Admission, Ok, Err, WrongCount, OutOfRange, NotAbove, NotBelow, NotLowest, Uncovered, NotExpanding}
 
 -- "every number lies in −100..100"
 pub record InRange (f w : List ℤ) : Type 0 where
@@ -54,16 +54,14 @@ pub record Admissible (s : System) : Type 0 where
 -- ---- when each answer is given
 
 -- Of one row, "6, 7, 8, 9", the first that applies: "6: a number is out of its range. 7: det F ≤ 0. 8: det W ≥ 0. 9: F or an end not in lowest terms."
--- 3, 10 and 18 are no answers about a row.
+-- The other refusals are no answers about a row.
 abbrev pub RowCase : List ℤ → List ℤ → Admission → Type 0
-RowCase f w Admitted = Digit f w
-RowCase f w WrongCount = ⊥
-RowCase f w OutOfRange = InRange f w → ⊥
-RowCase f w NotAbove = InRange f w × (determinant_of f ≤ℤ pos 0)
-RowCase f w NotBelow = InRange f w × (pos 0 <ℤ determinant_of f) × (pos 0 ≤ℤ determinant_of w)
-RowCase f w NotLowest = InRange f w × (pos 0 <ℤ determinant_of f) × Interval w × (Lowest f w → ⊥)
-RowCase f w Uncovered = ⊥
-RowCase f w NotExpanding = ⊥
+RowCase f w (Ok u) = Digit f w
+RowCase f w (Err OutOfRange) = InRange f w → ⊥
+RowCase f w (Err NotAbove) = InRange f w × (determinant_of f ≤ℤ pos 0)
+RowCase f w (Err NotBelow) = InRange f w × (pos 0 <ℤ determinant_of f) × (pos 0 ≤ℤ determinant_of w)
+RowCase f w (Err NotLowest) = InRange f w × (pos 0 <ℤ determinant_of f) × Interval w × (Lowest f w → ⊥)
+RowCase f w v = ⊥
 
 -- "row by row": the count is right, v is the answer about some row, and every row before it is a digit
 pub record FirstRow (s : System) (v : Admission) : Type 0 where
@@ -95,11 +93,12 @@ pub record RowNotExpanding (s : System) : Type 0 where
 
 -- Of a whole system: "3: a system has 0 or more than 16 digits", "row by row 6, 7, 8, 9; then 10", then 18, and admitted.
 abbrev pub SystemCase : System → Admission → Type 0
-SystemCase s Admitted = Admissible s
-SystemCase s WrongCount = (s.count ≡ 0) ⊎ (16 < s.count)
-SystemCase s OutOfRange = FirstRow s OutOfRange
-SystemCase s NotAbove = FirstRow s NotAbove
-SystemCase s NotBelow = FirstRow s NotBelow
-SystemCase s NotLowest = FirstRow s NotLowest
-SystemCase s Uncovered = Gap s
-SystemCase s NotExpanding = RowNotExpanding s
+SystemCase s (Ok u) = Admissible s
+SystemCase s (Err WrongCount) = (s.count ≡ 0) ⊎ (16 < s.count)
+SystemCase s (Err OutOfRange) = FirstRow s (Err OutOfRange)
+SystemCase s (Err NotAbove) = FirstRow s (Err NotAbove)
+SystemCase s (Err NotBelow) = FirstRow s (Err NotBelow)
+SystemCase s (Err NotLowest) = FirstRow s (Err NotLowest)
+SystemCase s (Err Uncovered) = Gap s
+SystemCase s (Err NotExpanding) = RowNotExpanding s
+SystemCase s v = ⊥

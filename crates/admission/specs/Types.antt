@@ -1,4 +1,10 @@
--- The type of src/ and its answers, for one `use` line. (A crate passes on a type of `declared` only from under another name, here `A`.)
-use Rattle.admission.specs.declared.Admission as A
-pub use A.{Admission}
-pub use A.TheVariants.{Admitted, WrongCount, OutOfRange, NotAbove, NotBelow, NotLowest, Uncovered, NotExpanding}
+-- What the judgement of a system answers, for one `use` line: admitted, or which refusal applies first.
+use Rattle.refusals.specs.Types as R
+use Rattle.refusals.specs.Numbers.{Judgement}
+pub use R.{Ok, Err, WrongCount, OutOfRange, NotAbove, NotBelow, NotLowest, Uncovered, NotExpanding}
+
+abbrev pub Admission : Type 0
+Admission = Judgement
+
+abbrev pub Admitted : Admission
+Admitted = Ok tt

@@ -2,7 +2,7 @@
 ghost use Rattle.std.specs.Prelude.{◌≡◌};
 ghost use Rattle.admission.specs.Admission.{lowest_ends?, row_verdict};
 
-use crate::Admission;
+use refusals::Refusal;
 
 // Whether both ends of an interval are in lowest terms.
 fn lowest_ends(w: [i64; 4]) -> bool
@@ -15,26 +15,26 @@ fn lowest_ends(w: [i64; 4]) -> bool
 }
 
 // "6, 7, 8, 9", in this order.
-pub(crate) fn row_verdict(f: [i64; 4], w: [i64; 4]) -> Admission
+pub(crate) fn row_verdict(f: [i64; 4], w: [i64; 4]) -> Result<(), Refusal>
     ensures { result ≡ row_verdict f w }
 {
-    if !ranges::within(f, 100) {
-        return Admission::OutOfRange;
+    if !ranges::within::<100>(f) {
+        return Err(Refusal::OutOfRange);
     }
-    if !ranges::within(w, 100) {
-        return Admission::OutOfRange;
+    if !ranges::within::<100>(w) {
+        return Err(Refusal::OutOfRange);
     }
     if plane::determinant(f) <= 0 {
-        return Admission::NotAbove;
+        return Err(Refusal::NotAbove);
     }
     if 0 <= plane::determinant(w) {
-        return Admission::NotBelow;
+        return Err(Refusal::NotBelow);
     }
     if cancelling::divisor(f) != 1 {
-        return Admission::NotLowest;
+        return Err(Refusal::NotLowest);
     }
     if lowest_ends(w) {
-        return Admission::Admitted;
+        return Ok(());
     }
-    Admission::NotLowest
+    Err(Refusal::NotLowest)
 }

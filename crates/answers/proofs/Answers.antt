@@ -5,7 +5,8 @@ use Rattle.plane.proofs.Laws.{cancel_of, cancel_within}
 use Rattle.digits.proofs.Laws.{System}
 use Rattle.admission.proofs.Laws.{admission_of, admission_number}
 use Rattle.states.proofs.Laws.{StateRules}
-use Rattle.opening.proofs.Laws.{Opening, Opens, OutOfRange, NotAbove, Start, OpeningCase, opening_number, open_of, refused_start, start_of, opens, hands_out, opened_rules}
+use Rattle.opening.proofs.Laws.{Opening, Opens, Ok, Err, Start, OpeningCase, opening_number, open_of, refused_start, start_of, opens, hands_out, opened_rules}
+use Rattle.refusals.proofs.Numbers.{numbered}
 use Rattle.sections.proofs.Laws.{writes, refuses_value}
 use Rattle.job_sections.proofs.Laws.{Bytes, Contents, layout_of, written_job, parts_of, file_size, layout_size}
 use Rattle.job_writing.proofs.Laws.{Writing, Written, NotWritten, wrote, judged_of, write_of, Says, judged_says, refused_leaves, short_leaves, file_leaves}
@@ -13,10 +14,10 @@ use Rattle.jobs.proofs.Laws.{Verdict, Reads, Refused, read_of, reads_laid, layou
 use Rattle.jobs.specs.Reading.{reading_of}
 use Rattle.answers.specs.Numbers.{MatrixNumber, UnwrittenNumber}
 use Rattle.answers.specs.Answers.{AdmissionInRange, StartInRange, ReadingInRange, WritingInRange}
-use Rattle.answers.proofs.Sections.{matrix_above, refuses_number, section_few, contents_number}
+use Rattle.answers.proofs.Sections.{refusing, opening_number_lem, matrix_above, refuses_number, section_few, contents_number}
 
 pub admit_in_range : (s : System) → AdmissionInRange (admission_of s)
-admit_in_range s = admission_number (admission_of s)
+admit_in_range = admission_number
 
 -- ---- opening
 
@@ -32,7 +33,7 @@ refused_in_range v k = record {
 
 start_in_range : (m : List ℤ) (v : Opening) → (open_of m).opening ≡ v → OpeningCase m v → StartInRange (start_of m v)
 unfolding cancel_of
-start_in_range m Opens e c = record {
+start_in_range m (Ok u) e c = record {
   number = inl refl;
   four = refl;
   entries = cancel_within c.0;
@@ -40,8 +41,7 @@ start_in_range m Opens e c = record {
   opened = λ z n. subst (λ (r : Start). StateRules n r.state) (hands_out m Opens e) (opened_rules m e n);
   refused = λ h. absurd (omega (arith, h));
 }
-start_in_range m OutOfRange e c = refused_in_range OutOfRange (inl refl)
-start_in_range m NotAbove e c = refused_in_range NotAbove (inr refl)
+start_in_range m (Err r) e c = refused_in_range (Err r) (refusing MatrixNumber (opening_number_lem m (Err r) c) (numbered r))
 
 pub open_in_range : (m : List ℤ) → StartInRange (open_of m)
 open_in_range m =

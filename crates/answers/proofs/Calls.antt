@@ -3,7 +3,7 @@
 use Rattle.whole.proofs.Laws.{◌≡◌, refl, sym, ap, ◌∙◌, Bool, true, false, cond, ◌&&◌, List, inl, inr, ℕ, zero, suc, ◌+◌, ◌*◌, ◌≤◌, ◌/◌, arith, leb, length, ℤ, unless_refused, passed}
 use Rattle.plane.proofs.Laws.{determinant_of, entries}
 use Rattle.digits.proofs.Laws.{StoredSystem, system_of, columns_of, rows_of, rows_length, number_in_rows, one_in_columns}
-use Rattle.admission.proofs.Laws.{admission_of, admission_number}
+use Rattle.admission.proofs.Laws.{admission_number}
 use Rattle.opening.proofs.Laws.{open_of}
 use Rattle.job_sections.proofs.Laws.{Bytes}
 use Rattle.job_writing.proofs.Laws.{Writing, Written, NotWritten, Wrote as WroteFile, wrote as wroteFile, contents, write_of}
@@ -30,7 +30,7 @@ unfolding admit_number
 sled_admit_in_range s = by (columns? s.columns)
   where
     by : (t : Bool) → AdmitInRange (cond t (admitted s) wrong_length)
-    by true = inl (admission_number (admission_of (system_of s)))
+    by true = inl (admission_number (system_of s))
     by false = inr refl
 
 pub sled_system_in_range : (s : StoredSystem) (old : List ℤ) → SystemInRange s old (handed_out s old)

@@ -10,5 +10,5 @@ pub use Rattle.answers.proofs.Sections.{contents_number, contents_above}
 -- a buffer with room for the largest file is never too short
 pub use Rattle.answers.proofs.Calls.{sled_write_room}
 -- no second answer fits
-pub use Rattle.answers.proofs.OneAnswer.{one_system, one_admission, one_refusal_number, one_opening_number, one_end_number, one_judgement, one_opening, one_refusal, one_run, one_two_run, one_two_opening, one_reading, one_write, one_response}
+pub use Rattle.answers.proofs.OneAnswer.{one_system, one_admission, one_number, one_refusal_number, one_opening_number, one_end_number, one_judgement, one_opening, one_opened, one_refusal, one_refused, one_systems_refused, one_run, one_two_run, one_two_opening, one_reading, one_read, one_write, one_written, one_response}
 pub use Rattle.answers.proofs.OneAnswer.{one_sled_admit, one_sled_system, one_sled_columns, one_sled_rows, one_sled_open, one_sled_run, one_sled_read, one_sled_write, one_sled_open_two, one_sled_run_two}

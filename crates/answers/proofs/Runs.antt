@@ -2,7 +2,7 @@
 -- of that state. A run that is refused leaves the state, the output and the list as they were.
 use Rattle.whole.proofs.Laws.{◌≡◌, refl, sym, subst, List, inl, inr, ℕ, ◌<◌, ◌≤◌, arith, ℤ, pos, negsuc, Within, up<}
 use Rattle.digits.proofs.Laws.{System}
-use Rattle.states.proofs.Laws.{Held, Nothing, Digit, State, HeldDigit, EndNumber}
+use Rattle.states.proofs.Laws.{Held, None, Some, State, HeldDigit, EndNumber}
 use Rattle.steps.proofs.Laws.{setting}
 use Rattle.judging.proofs.Laws.{refusal_of, RefusalNumber, refusal_number_lem}
 use Rattle.unary.proofs.Laws.{Ran, run_of, in_range, refused_untouched}
@@ -20,8 +20,8 @@ none_in_range : (count : ℕ) → HeldInRange count (negsuc 0)
 none_in_range count = record { from = record { le = tt }; below = record { lt = tt } }
 
 pub held_in_range : (count : ℕ) (h : Held) → HeldDigit count h → HeldInRange count (held_number h)
-held_in_range count Nothing k = none_in_range count
-held_in_range count (Digit d) k = digit_in_range k
+held_in_range count None k = none_in_range count
+held_in_range count (Some d) k = digit_in_range k
 
 pub state_in_range : {most count : ℕ} (s : State) → Within most s.matrix → HeldDigit count s.held → StateInRange most count (state_numbers s)
 unfolding state_numbers

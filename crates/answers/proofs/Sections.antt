@@ -1,9 +1,9 @@
 -- Which numbers a section of a file can be refused by: 1, the number of a wrong count, and those that are given of its contents; and behind the last section 2. A file is
 -- refused in one of its sections, so the numbers of the job file are those of `SectionNumber`; and of a job that is to be written those of `ContentsNumber`.
-use Rattle.whole.proofs.Laws.{◌≡◌, refl, subst, List, inl, inr, ℕ, zero, suc, ◌+◌, ◌*◌, ◌≤◌, arith, ℤ}
-use Rattle.digits.proofs.Laws.{StoredSystem}
-use Rattle.admission.proofs.Laws.{SystemNumber, admission_number}
-use Rattle.opening.proofs.Laws.{Opening, Opens, OutOfRange, NotAbove, opening_number}
+use Rattle.whole.proofs.Laws.{◌≡◌, refl, sym, ap, ◌∙◌, subst, List, inl, inr, ℕ, zero, suc, ◌+◌, ◌*◌, ◌≤◌, arith, ℤ}
+use Rattle.digits.proofs.Laws.{StoredSystem, system_of}
+use Rattle.admission.proofs.Laws.{SystemNumber, refusal_number, admission_number, admitted_only}
+use Rattle.opening.proofs.Laws.{Opening, Ok, Err, OutOfRange, MatrixNotAbove, OpeningCase, opening_number}
 use Rattle.sections.proofs.Laws.{◌then◌, nothing, ◌then_written◌, nothing_written}
 use Rattle.sections.specs.Section.{Section, Limits, Absent, no_count, too_few, too_many, cut_off, Breaks, absent, broken, Unwritable, count_low, count_high, contents}
 use Rattle.sections.specs.File.{File, Follows, bytes_follow, RefusesThen, here, later}
@@ -45,20 +45,22 @@ value_number s f P i of-this of-those v n k (value_later w r) = of-those v.1 n k
 
 -- ---- of the job file
 
-refusing : (P : ℕ → Type 0) {n : ℕ} → ZeroOr P n → 1 ≤ n → P n
+pub refusing : (P : ℕ → Type 0) {n : ℕ} → ZeroOr P n → 1 ≤ n → P n
 refusing P (inl e) h = absurd (omega (arith, e, h))
 refusing P (inr p) h = p
 
-pub opening_number_lem : (v : Opening) → ZeroOr MatrixNumber (opening_number v)
-opening_number_lem Opens = inl refl
-opening_number_lem OutOfRange = inr (inl refl)
-opening_number_lem NotAbove = inr (inr refl)
+pub opening_number_lem : (m : List ℤ) (v : Opening) → OpeningCase m v → ZeroOr MatrixNumber (opening_number v)
+opening_number_lem m (Ok u) c = inl refl
+opening_number_lem m (Err OutOfRange) c = inr (inl refl)
+opening_number_lem m (Err MatrixNotAbove) c = inr (inr refl)
+opening_number_lem m (Err r) c = absurd c
 
 system_number : (s : StoredSystem) (n : ℕ) → system.Gives s n → 1 ≤ n → SystemNumber n
-system_number s n g = refusing SystemNumber (subst (ZeroOr SystemNumber) g.numbered (admission_number g.answer))
+system_number s n g = refusing SystemNumber
+    (subst (ZeroOr SystemNumber) (ap refusal_number (sym (admitted_only (system_of s) g.answer g.holds)) ∙ g.numbered) (admission_number (system_of s)))
 
 matrix_number : (m : List ℤ) (n : ℕ) → matrix.Gives m n → 1 ≤ n → MatrixNumber n
-matrix_number m n g = refusing MatrixNumber (subst (ZeroOr MatrixNumber) g.numbered (opening_number_lem g.answer))
+matrix_number m n g = refusing MatrixNumber (subst (ZeroOr MatrixNumber) g.numbered (opening_number_lem m g.answer g.holds))
 
 word_number : (bytes : List ℕ) (n : ℕ) → Breaks word bytes n → SectionNumber 3 n
 word_number = breaks_number word (SectionNumber 3) (inl refl) (inr (inr refl)) (λ w n e h. absurd (omega (arith, e, h)))

@@ -3,7 +3,7 @@ use Rattle.std.specs.Prelude.{◌≡◌, List, ℕ, ◌+◌, ◌≤◌, length}
 use Rattle.whole.specs.Range.{Within}
 use Rattle.admission.specs.Types.{Admission}
 use Rattle.admission.specs.Admission.{refusal_number, SystemNumber}
-use Rattle.states.specs.Types.{Nothing}
+use Rattle.states.specs.Types.{None}
 use Rattle.states.specs.State.{StateRules}
 use Rattle.opening.specs.Types.{Start}
 use Rattle.opening.specs.Opening.{opening_number, no_matrix}
@@ -23,7 +23,7 @@ pub record StartInRange (r : Start) : Type 0 where
   pub number : ZeroOr MatrixNumber (opening_number r.opening)
   pub four : length r.state.matrix ≡ 4
   pub entries : Within 1000 r.state.matrix
-  pub held : r.state.held ≡ Nothing
+  pub held : r.state.held ≡ None
   -- where it opens, the rules for a state are kept, whatever the input system; where it is refused, "no state"
   pub opened : opening_number r.opening ≡ 0 → (digits : ℕ) → StateRules digits r.state
   pub refused : 1 ≤ opening_number r.opening → r.state.matrix ≡ no_matrix

@@ -1,7 +1,7 @@
 -- The divisor of a step over two words divides the determinant of the step's digit, as with one word (crates/plane/proofs/Divides.antt): absorbing F multiplies the coefficients with
 -- F, from the right or, turned over, from the left, and giving G multiplies with pseudoinverse(G) the two halves that `front_of` and `back_of` are; each product is undone up to
 -- the determinant. So what divides the product divides the determinant times each of the eight numbers, which have no common divisor but 1.
-use Rattle.whole.proofs.Laws.{◌≡◌, refl, ◌∙◌, ap, subst, List, [], ◌∷◌, ℕ, ◌*◌, ◌<◌, ◌∣◌, ℤ, pos, nat_abs, ◌<ℤ◌, ◌⊖◌, ◌⊗◌, ◌≗◌, law, at, Divides4}
+use Rattle.whole.proofs.Laws.{◌≡◌, refl, ◌∙◌, ap, subst, List, ℕ, ◌*◌, ◌<◌, ◌∣◌, ℤ, pos, nat_abs, ◌<ℤ◌, ◌⊖◌, ◌⊗◌, ◌≗◌, law, at, Divides4}
 use native.Mathlib.Nat.{mul-one, pos_of_dvd_of_pos}
 use Rattle.plane.proofs.Laws.{determinant_of, pseudoinverse_of, multiply_of, scale_of, size_above, left_divides, right_divides, undone, undone_left, multiply_pseudoinverse, times_above}
 use Rattle.bilinear.specs.Types.{Form}

@@ -1,7 +1,7 @@
 -- "A state of eight numbers" (document 02, T-14): the coefficients of xy, x, y and 1 in the numerator, and then in the denominator. For two numbers
 -- x = x0/x1 and y = y0/y1 the quotient of the two is (a·x0·y0 + b·x0·y1 + c·x1·y0 + d·x1·y1) over the same of the other four: two pairs are sent to a
 -- pair, and nothing is divided.
-use Rattle.std.specs.Prelude.{List, [], ◌∷◌, ℤ, pos, neg_ℤ, ◌+ℤ◌, ◌*ℤ◌}
+use Rattle.std.specs.Prelude.{List, [], ◌∷◌, ℕ, ◌+◌, ℤ, pos, neg_ℤ, ◌+ℤ◌, ◌*ℤ◌}
 use Rattle.whole.specs.Range.{at}
 use Rattle.plane.specs.Plane.{Pair, multiply_of, pseudoinverse_of}
 use Rattle.bilinear.specs.Types.{Form}
@@ -64,12 +64,16 @@ given_form g m = times_form (pseudoinverse_of g) m
 
 -- ---- how the code multiplies: P·X is the product of P with each of two matrices
 
--- the coefficients of xy and x, above and below; and those of y and 1
+-- two coefficients, above and below, from one of them on
+abbrev pub half_from : ℕ → Form → List ℤ
+half_from p m = at m.numerator p ∷ at m.numerator (p + 1) ∷ at m.denominator p ∷ at m.denominator (p + 1) ∷ []
+
+-- those of xy and x; and those of y and 1
 abbrev pub front_of : Form → List ℤ
-front_of m = at m.numerator 0 ∷ at m.numerator 1 ∷ at m.denominator 0 ∷ at m.denominator 1 ∷ []
+front_of m = half_from 0 m
 
 abbrev pub back_of : Form → List ℤ
-back_of m = at m.numerator 2 ∷ at m.numerator 3 ∷ at m.denominator 2 ∷ at m.denominator 3 ∷ []
+back_of m = half_from 2 m
 
 -- and from these two back
 abbrev pub of_halves : List ℤ → List ℤ → Form

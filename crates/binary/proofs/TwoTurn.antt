@@ -3,8 +3,8 @@ use Rattle.whole.proofs.Laws.{◌≡◌, refl, sym, ap, subst, ◌∙◌, List, 
 use Rattle.runs.proofs.Laws.{Supply, Deed, nothing, and_then, Pays, written, goes, Going, took_x, took_y, gave, within, does, Lent, Took, took_none, took_front, Wrote, wrote_none, wrote_one, here_first}
 use Rattle.states.proofs.Laws.{Stop}
 use Rattle.steps.proofs.Laws.{Setting}
-use Rattle.two_states.proofs.Laws.{TwoState, TwoRules}
-use Rattle.two_steps.proofs.Laws.{Kind, LoadX, LoadY, Give, Absorb, Halt, Move, two_plan, pairs, two_words, outcome_by, StaysBy, Follows, Ready, lawful, Kept, step_keeps}
+use Rattle.two_states.proofs.Laws.{OfX, OfY, TwoState, TwoRules}
+use Rattle.two_steps.proofs.Laws.{Kind, Load, Give, Absorb, Halt, Move, two_plan, pairs, two_words, outcome_by, StaysBy, Follows, Ready, lawful, Kept, step_keeps}
 use Rattle.runs.proofs.Laws as loop
 use Rattle.binary.specs.TwoRun.{answered, two_ran, two_steps_of}
 
@@ -28,8 +28,8 @@ pub record Further (y : Setting) (s₀ : TwoState) (l : Lent) (s : TwoState) (i 
   pub stands : Stands y s₀ l out t i' j' o'
 
 pub record TurnBy (y : Setting) (s₀ : TwoState) (l : Lent) (out : List ℕ) (s : TwoState) (i j o : ℕ) (m : Move) : Type 0 where
-  pub load_x_lem : (a : ℕ) → m.kind ≡ LoadX a → (i < length l.x) × Further y s₀ l s i j o out m.state (i + 1) j o
-  pub load_y_lem : (b : ℕ) → m.kind ≡ LoadY b → (j < length l.y) × Further y s₀ l s i j o out m.state i (j + 1) o
+  pub load_x_lem : (a : ℕ) → m.kind ≡ Load OfX a → (i < length l.x) × Further y s₀ l s i j o out m.state (i + 1) j o
+  pub load_y_lem : (b : ℕ) → m.kind ≡ Load OfY b → (j < length l.y) × Further y s₀ l s i j o out m.state i (j + 1) o
   pub give : (c : ℕ) → m.kind ≡ Give c → (o < length out) × Further y s₀ l s i j o (set out o c) m.state i j (o + 1)
   pub absorb : m.kind ≡ Absorb → Further y s₀ l s i j o out m.state i j o
   pub halt : (e : Stop) → m.kind ≡ Halt e → two_ran (answered e i j o m.state) out ≡ two_steps_of y s₀ l.x l.y l.out
@@ -58,15 +58,15 @@ module _ (y : Setting) (s₀ : TwoState) (xs ys out₀ out : List ℕ) (s : TwoS
       (subst (λ (things : List ℕ). Wrote [] 0 things [] 0) (sym none) (wrote_none [] 0)) in
       record { falls = g.0; stands = g.1 }
 
-  on_load_x : (a : ℕ) → m.kind ≡ LoadX a → (i < length xs) × Further y s₀ l s i j o out m.state (i + 1) j o
+  on_load_x : (a : ℕ) → m.kind ≡ Load OfX a → (i < length xs) × Further y s₀ l s i j o out m.state (i + 1) j o
   on_load_x a e =
-      let c = pays (LoadX a) (took_x a) e refl in
-      (omega (arith, (within c).0, length-drop i xs), leads (LoadX a) (took_x a) e refl refl (took_front xs i (a ∷ []) c.x) (took_none ys j) (wrote_none out o))
+      let c = pays (Load OfX a) (took_x a) e refl in
+      (omega (arith, (within c).0, length-drop i xs), leads (Load OfX a) (took_x a) e refl refl (took_front xs i (a ∷ []) c.x) (took_none ys j) (wrote_none out o))
 
-  on_load_y : (b : ℕ) → m.kind ≡ LoadY b → (j < length ys) × Further y s₀ l s i j o out m.state i (j + 1) o
+  on_load_y : (b : ℕ) → m.kind ≡ Load OfY b → (j < length ys) × Further y s₀ l s i j o out m.state i (j + 1) o
   on_load_y b e =
-      let c = pays (LoadY b) (took_y b) e refl in
-      (omega (arith, (within c).1, length-drop j ys), leads (LoadY b) (took_y b) e refl refl (took_none xs i) (took_front ys j (b ∷ []) c.y) (wrote_none out o))
+      let c = pays (Load OfY b) (took_y b) e refl in
+      (omega (arith, (within c).1, length-drop j ys), leads (Load OfY b) (took_y b) e refl refl (took_none xs i) (took_front ys j (b ∷ []) c.y) (wrote_none out o))
 
   on_give : (c : ℕ) → m.kind ≡ Give c → (o < length out) × Further y s₀ l s i j o (set out o c) m.state i j (o + 1)
   on_give c e =
@@ -100,8 +100,8 @@ turn {y} {s₀} {xs} {ys} {out₀} {out} {s} {i} {j} {o} {m} = turn_here y s₀ 
 
 rules_kept : (y : Setting) (s : TwoState) → TwoRules y.input.count s → (k : Kind) (t : TwoState) → Going (λ t d. Kept y (and_then nothing d) t) (outcome_by k t) → StaysBy s k t →
     TwoRules y.input.count t
-rules_kept y s r (LoadX a) t g h = g.state
-rules_kept y s r (LoadY b) t g h = g.state
+rules_kept y s r (Load OfX a) t g h = g.state
+rules_kept y s r (Load OfY b) t g h = g.state
 rules_kept y s r (Give c) t g h = g.state
 rules_kept y s r Absorb t g h = g.state
 rules_kept y s r (Halt e) t g h = subst (TwoRules y.input.count) (sym h) r

@@ -3,27 +3,29 @@
 #![tactic(auto)]
 
 ghost use Rattle.std.specs.Prelude.{◌≡◌};
-ghost use Rattle.digits.specs.Orders.{lent, Columns, system_of};
+ghost use Rattle.refusals.specs.Numbers.{outcome_number};
+ghost use Rattle.digits.specs.Orders.{system_of};
 ghost use Rattle.steps.specs.Step.{setting};
 ghost use Rattle.two_steps.specs.Made.{Ready};
 ghost use Rattle.binary.specs.TwoRun.{two_refusal, two_ran, two_steps_of, two_run};
 
 use digits::System;
+use refusals::Refusal;
 use states::Stop;
-use two_states::TwoState;
+use two_states::{Turn, TwoState};
 use two_steps::Kind;
 
-// The counts, kept apart: bytes taken of x, bytes taken of y, digits written.
-#[derive(Clone, Copy)]
+// The counts, kept apart: bytes taken of x, bytes taken of y, digits written. (Three types and not three numbers: document 02 keeps them apart, so that none is taken for another.)
+#[derive(Clone, Copy, Debug, PartialEq, Eq)]
 pub struct TakenX(pub usize);
 
-#[derive(Clone, Copy)]
+#[derive(Clone, Copy, Debug, PartialEq, Eq)]
 pub struct TakenY(pub usize);
 
-#[derive(Clone, Copy)]
+#[derive(Clone, Copy, Debug, PartialEq, Eq)]
 pub struct Written(pub usize);
 
-#[derive(Clone, Copy)]
+#[derive(Clone, Copy, Debug, PartialEq, Eq)]
 pub struct TwoAnswer {
     pub stop: Stop,
     pub x: TakenX,
@@ -32,78 +34,52 @@ pub struct TwoAnswer {
     pub state: TwoState,
 }
 
-// The input system is judged first, which both words are in, then the output system, then the state (12): the number of the refusal, or 0.
-fn refusal(
-    input_count: usize,
-    input_columns: &[i16],
-    output_count: usize,
-    output_columns: &[i16],
-    s: TwoState,
-) -> u8
-    requires { (Columns input_columns.now) × (Columns output_columns.now) }
-    ensures { result ≡ two_refusal (setting (lent input_count input_columns.now) (lent output_count output_columns.now)) s }
+// The input system is judged first, which both words are in, then the output system, then the state (12).
+fn refusal(inputs: &System, outputs: &System, s: TwoState) -> Result<(), Refusal>
+    ensures { outcome_number result ≡ two_refusal (setting (system_of inputs.now) (system_of outputs.now)) s }
 {
-    let number = judging::systems_refusal(input_count, input_columns, output_count, output_columns);
-    if number != 0 {
-        return number;
-    }
-    if two_states::state_kept(input_count, s) {
-        0
+    judging::systems_refusal(inputs, outputs)?;
+    if two_states::state_kept(inputs.count, s) {
+        Ok(())
     } else {
-        12
+        Err(Refusal::State)
     }
 }
 
 // The steps of a run whose systems and state are judged. A digit is written only after the state is known to fit.
 fn run_judged(
-    input_count: usize,
-    input_columns: &[i16],
-    output_count: usize,
-    output_columns: &[i16],
+    inputs: &System,
+    outputs: &System,
     s: TwoState,
     xs: &[u8],
     ys: &[u8],
     output: &mut [u8],
 ) -> TwoAnswer
-    requires { (Columns input_columns.now) × (Columns output_columns.now) × (Ready (setting (lent input_count input_columns.now) (lent output_count output_columns.now)) s) }
+    requires { Ready (setting (system_of inputs.now) (system_of outputs.now)) s }
     ensures { two_ran result output.new ≡
-        two_steps_of (setting (lent input_count input_columns.now) (lent output_count output_columns.now)) s xs.now ys.now output.old }
+        two_steps_of (setting (system_of inputs.now) (system_of outputs.now)) s xs.now ys.now output.old }
 {
     let mut st = s;
     let mut i: usize = 0;
     let mut j: usize = 0;
     let mut o: usize = 0;
     loop {
-        let m = two_steps::step(
-            input_count,
-            input_columns,
-            output_count,
-            output_columns,
-            st,
-            xs,
-            i,
-            ys,
-            j,
-            o,
-            output.len(),
-        );
-        let kind = m.kind;
-        let t = m.state;
-        st = t;
-        match kind {
+        let m = two_steps::step(inputs, outputs, st, xs, i, ys, j, o, output.len());
+        st = m.state;
+        match m.kind {
             Kind::Halt(stop) => {
                 return TwoAnswer {
                     stop,
                     x: TakenX(i),
                     y: TakenY(j),
                     written: Written(o),
-                    state: t,
+                    state: st,
                 };
             }
-            Kind::LoadX(_) => {
+            Kind::Load(Turn::OfX, _) => {
                 i += 1;
             }
-            Kind::LoadY(_) => {
+            Kind::Load(Turn::OfY, _) => {
                 j += 1;
             }
             Kind::Give(c) => {
@@ -115,47 +91,28 @@ fn run_judged(
     }
 }
 
-// A run over systems that are lent, as the numbers of their digits. The systems and the state are judged first.
+// A run over systems that are lent. The systems and the state are judged first.
 pub fn run_lent(
-    input_count: usize,
-    input_columns: &[i16],
-    output_count: usize,
-    output_columns: &[i16],
+    inputs: &System,
+    outputs: &System,
     state: TwoState,
     xs: &[u8],
     ys: &[u8],
     output: &mut [u8],
 ) -> TwoAnswer
-    requires { (Columns input_columns.now) × (Columns output_columns.now) }
     ensures { two_ran result output.new ≡
-        two_run (lent input_count input_columns.now) (lent output_count output_columns.now) state xs.now ys.now output.old }
+        two_run (system_of inputs.now) (system_of outputs.now) state xs.now ys.now output.old }
 {
-    let number = refusal(
-        input_count,
-        input_columns,
-        output_count,
-        output_columns,
-        state,
-    );
-    if number != 0 {
-        return TwoAnswer {
-            stop: Stop::Refused(number),
+    match refusal(inputs, outputs, state) {
+        Err(refusal) => TwoAnswer {
+            stop: Stop::Refused(refusal.number()),
             x: TakenX(0),
             y: TakenY(0),
             written: Written(0),
             state,
-        };
+        },
+        Ok(_) => run_judged(inputs, outputs, state, xs, ys, output),
     }
-    run_judged(
-        input_count,
-        input_columns,
-        output_count,
-        output_columns,
-        state,
-        xs,
-        ys,
-        output,
-    )
 }
 
 // A run: bytes of the two words are taken and digits are written to the output until a step stops. Of any two systems, any state, any words and any output at all.
@@ -169,16 +126,5 @@ pub fn run(
 ) -> TwoAnswer
     ensures { two_ran result output.new ≡ two_run (system_of inputs) (system_of outputs) state xs.now ys.now output.old }
 {
-    let input_columns = inputs.columns;
-    let output_columns = outputs.columns;
-    run_lent(
-        inputs.count,
-        &input_columns,
-        outputs.count,
-        &output_columns,
-        state,
-        xs,
-        ys,
-        output,
-    )
+    run_lent(&inputs, &outputs, state, xs, ys, output)
 }

@@ -3,7 +3,7 @@ use Rattle.whole.proofs.Laws.{◌≡◌, refl, sym, ap, Bool, true, ◌&&◌, Li
 use Rattle.plane.proofs.Laws.{Interval, det, left, right, dot}
 use Rattle.inclusion.proofs.Laws.{wide?, wide_not_included}
 use Rattle.digits.proofs.Laws.{table_of, printed_b, interval, interval_by, four_by}
-use Rattle.fitting.proofs.Laws.{Missing, fitting, fits?, fitting_of}
+use Rattle.fitting.proofs.Laws.{None, fitting, fits?, fitting_of}
 
 -- an interval narrower than a right angle
 narrow? : List ℤ → Bool
@@ -16,7 +16,7 @@ all_narrow : every_below? narrow_digit? 8 ≡ true
 unfolding first narrow? interval_by four_by
 all_narrow = refl
 
-pub wide_in_none : (image : List ℤ) → Interval image → wide? image ≡ true → Missing ≡ fitting (fitting_of (table_of printed_b) image)
+pub wide_in_none : (image : List ℤ) → Interval image → wide? image ≡ true → None ≡ fitting (fitting_of (table_of printed_b) image)
 unfolding fitting_of narrow?
 wide_in_none image p e = sym (ap fitting (none_first (fits? (table_of printed_b) image) 8 0 (λ a l h.
     let w = interval (table_of printed_b) a in

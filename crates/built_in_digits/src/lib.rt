@@ -9,23 +9,17 @@ ghost use Rattle.digits.specs.System.{transformation, interval};
 ghost use Rattle.digits.specs.BuiltIn.{table_of, rows_r, rows_b};
 ghost use Rattle.fitting.specs.FirstFit.{fitting_of, fitting};
 
-use fitting::Fitting;
-
 // X.W, for the interval of a digit of R.
 pub fn image_r(x: [i64; 4], a: u8) -> [i64; 4]
     requires { (Within 1000000000 x) × (a < 4) }
     ensures { result ≡ image_of x (interval (table_of rows_r) a) }
 {
-    if a == 0 {
-        return products::image(x, [0, 1, 1, 1]);
+    match a {
+        0 => products::image(x, [0, 1, 1, 1]),
+        1 => products::image(x, [1, 1, 1, 0]),
+        2 => products::image(x, [1, 0, 1, -1]),
+        _ => products::image(x, [-1, 1, 0, 1]),
     }
-    if a == 1 {
-        return products::image(x, [1, 1, 1, 0]);
-    }
-    if a == 2 {
-        return products::image(x, [1, 0, 1, -1]);
-    }
-    products::image(x, [-1, 1, 0, 1])
 }
 
 // pseudoinverse(G)·X, for the transformation of a digit of R.
@@ -33,16 +27,12 @@ pub fn given_r(x: [i64; 4], a: u8) -> [i64; 4]
     requires { (Within 1000000000 x) × (a < 4) }
     ensures { result ≡ multiply_of (pseudoinverse_of (transformation (table_of rows_r) a)) x }
 {
-    if a == 0 {
-        return products::multiply([1, 0, -1, 1], x);
+    match a {
+        0 => products::multiply([1, 0, -1, 1], x),
+        1 => products::multiply([1, -1, 0, 1], x),
+        2 => products::multiply([1, 1, 0, 1], x),
+        _ => products::multiply([1, 0, 1, 1], x),
     }
-    if a == 1 {
-        return products::multiply([1, -1, 0, 1], x);
-    }
-    if a == 2 {
-        return products::multiply([1, 1, 0, 1], x);
-    }
-    products::multiply([1, 0, 1, 1], x)
 }
 
 // X.F, for the transformation of a digit of R.
@@ -50,69 +40,65 @@ pub fn absorbed_r(x: [i64; 4], a: u8) -> [i64; 4]
     requires { (Within 1000000000 x) × (a < 4) }
     ensures { result ≡ multiply_of x (transformation (table_of rows_r) a) }
 {
-    if a == 0 {
-        return products::multiply(x, [1, 0, 1, 1]);
+    match a {
+        0 => products::multiply(x, [1, 0, 1, 1]),
+        1 => products::multiply(x, [1, 1, 0, 1]),
+        2 => products::multiply(x, [1, -1, 0, 1]),
+        _ => products::multiply(x, [1, 0, -1, 1]),
     }
-    if a == 1 {
-        return products::multiply(x, [1, 1, 0, 1]);
-    }
-    if a == 2 {
-        return products::multiply(x, [1, -1, 0, 1]);
-    }
-    products::multiply(x, [1, 0, -1, 1])
 }
 
 // The smallest digit of R whose interval includes the image.
-pub fn fitting_r(image: [i64; 4]) -> Fitting
+pub fn fitting_r(image: [i64; 4]) -> Option<u8>
     requires { (Within 200000000000 image) × (Interval image) }
     ensures { result ≡ fitting (fitting_of (table_of rows_r) image) }
 {
     if inclusion::included(image, [0, 1, 1, 1]) {
-        return Fitting::At(0);
+        return Some(0);
     }
     if inclusion::included(image, [1, 1, 1, 0]) {
-        return Fitting::At(1);
+        return Some(1);
     }
     if inclusion::included(image, [1, 0, 1, -1]) {
-        return Fitting::At(2);
+        return Some(2);
     }
     if inclusion::included(image, [-1, 1, 0, 1]) {
-        return Fitting::At(3);
+        return Some(3);
     }
-    Fitting::Missing
+    None
 }
 
 // The smallest digit of B whose interval includes the image. Every interval of B is narrower than a right angle, and so is what it includes: a wide image is in none.
-pub fn fitting_b(image: [i64; 4]) -> Fitting
+pub fn fitting_b(image: [i64; 4]) -> Option<u8>
     requires { (Within 200000000000 image) × (Interval image) }
     ensures { result ≡ fitting (fitting_of (table_of rows_b) image) }
 {
     if inclusion::wide(image) {
-        return Fitting::Missing;
+        return None;
     }
     if inclusion::included(image, [-1, 3, 1, 1]) {
-        return Fitting::At(0);
+        return Some(0);
     }
     if inclusion::included(image, [0, 1, 2, 1]) {
-        return Fitting::At(1);
+        return Some(1);
     }
     if inclusion::included(image, [1, 2, 1, 0]) {
-        return Fitting::At(2);
+        return Some(2);
     }
     if inclusion::included(image, [1, 1, 3, -1]) {
-        return Fitting::At(3);
+        return Some(3);
     }
     if inclusion::included(image, [3, 1, 1, -1]) {
-        return Fitting::At(4);
+        return Some(4);
     }
     if inclusion::included(image, [1, 0, 1, -2]) {
-        return Fitting::At(5);
+        return Some(5);
     }
     if inclusion::included(image, [-2, 1, 0, 1]) {
-        return Fitting::At(6);
+        return Some(6);
     }
     if inclusion::included(image, [-1, 1, 1, 3]) {
-        return Fitting::At(7);
+        return Some(7);
     }
-    Fitting::Missing
+    None
 }

@@ -18,10 +18,7 @@ pub fn divisor_of_two(x: i64, y: i64) -> u64
 pub fn divisor(m: [i64; 4]) -> u64
     ensures { result ≡ gcd4 m }
 {
-    let a = whole::magnitude(m[0]);
-    let b = whole::magnitude(m[1]);
-    let c = whole::magnitude(m[2]);
-    let d = whole::magnitude(m[3]);
+    let [a, b, c, d] = m.map(whole::magnitude);
     let f = whole::gcd(a, b);
     if f == 1 {
         return 1;
@@ -29,16 +26,17 @@ pub fn divisor(m: [i64; 4]) -> u64
     whole::gcd(f, whole::gcd(c, d))
 }
 
-// The four numbers divided by a divisor of them. Signs stay.
+// The four numbers divided by a divisor of them. Signs stay. (`map` was tried, here and in `halves`: the proof did not close.)
 pub fn quotients(m: [i64; 4], g: u64) -> [i64; 4]
     requires { (Divides4 g m) × (0 < g) × (g < 9223372036854775808) }
     ensures { result ≡ divided m g }
 {
+    let [a, b, c, d] = m;
     [
-        whole::quotient(m[0], g),
-        whole::quotient(m[1], g),
-        whole::quotient(m[2], g),
-        whole::quotient(m[3], g),
+        whole::quotient(a, g),
+        whole::quotient(b, g),
+        whole::quotient(c, g),
+        whole::quotient(d, g),
     ]
 }
 
@@ -49,6 +47,15 @@ pub struct Cancelled {
     pub matrix: [i64; 4],
 }
 
+impl Cancelled {
+    // A matrix whose entries have no divisor but 1: it stays as it is.
+    pub fn kept(matrix: [i64; 4]) -> Cancelled
+        ensures { result ≡ record { divisor = 1; matrix = matrix } }
+    {
+        Cancelled { divisor: 1, matrix }
+    }
+}
+
 // "To cancel a matrix, divide it by the greatest common divisor of the four entries. Signs stay." Most products have none but 1, and are not divided.
 pub fn cancel(m: [i64; 4]) -> Cancelled
     requires { (Within 200000000000 m) × (0 < gcd4 m) }
@@ -56,10 +63,7 @@ pub fn cancel(m: [i64; 4]) -> Cancelled
 {
     let g = divisor(m);
     if g == 1 {
-        return Cancelled {
-            divisor: 1,
-            matrix: m,
-        };
+        return Cancelled::kept(m);
     }
     Cancelled {
         divisor: g,
@@ -67,11 +71,13 @@ pub fn cancel(m: [i64; 4]) -> Cancelled
     }
 }
 
-// Whether four numbers are all even. All four are looked at, so that there is nothing to branch on but the answer.
+// Whether four numbers are all even. All four are looked at, so that there is nothing to branch on but the answer. (`all` was tried: the proof
+// did not close.)
 pub fn even(m: [i64; 4]) -> bool
     ensures { (result ≡ true) ↔ Divides4 2 m }
 {
-    (m[0] % 2 == 0) & (m[1] % 2 == 0) & (m[2] % 2 == 0) & (m[3] % 2 == 0)
+    let [a, b, c, d] = m;
+    (a % 2 == 0) & (b % 2 == 0) & (c % 2 == 0) & (d % 2 == 0)
 }
 
 // The halves of four even numbers. A shift rounds down, but an even number has nothing to round, so that "Signs stay".
@@ -79,7 +85,8 @@ pub fn halves(m: [i64; 4]) -> [i64; 4]
     requires { Divides4 2 m }
     ensures { result ≡ divided m 2 }
 {
-    [m[0] >> 1, m[1] >> 1, m[2] >> 1, m[3] >> 1]
+    let [a, b, c, d] = m;
+    [a >> 1, b >> 1, c >> 1, d >> 1]
 }
 
 // A matrix whose divisor divides 2, cancelled: the divisor is 2 where all four entries are even, and else 1.
@@ -88,14 +95,12 @@ fn halved(m: [i64; 4]) -> Cancelled
     ensures { (result.divisor ≡ gcd4 m) × (result.matrix ≡ cancel_of m) }
 {
     if even(m) {
-        return Cancelled {
+        Cancelled {
             divisor: 2,
             matrix: halves(m),
-        };
-    }
-    Cancelled {
-        divisor: 1,
-        matrix: m,
+        }
+    } else {
+        Cancelled::kept(m)
     }
 }
 
@@ -103,16 +108,7 @@ fn halved(m: [i64; 4]) -> Cancelled
 pub fn shared(m: [i64; 4], d: u64) -> u64
     ensures { result ≡ gcd (gcd4 m) d }
 {
-    whole::gcd(
-        whole::magnitude(m[3]),
-        whole::gcd(
-            whole::magnitude(m[2]),
-            whole::gcd(
-                whole::magnitude(m[1]),
-                whole::gcd(whole::magnitude(m[0]), d),
-            ),
-        ),
-    )
+    m.iter().fold(d, |g, x| whole::gcd(whole::magnitude(*x), g))
 }
 
 // "To cancel a matrix, divide it by the greatest common divisor of the four entries. Signs stay." As `cancel` does, from a number that the divisor divides:
@@ -121,18 +117,15 @@ pub fn cancel_by(m: [i64; 4], d: u64) -> Cancelled
     requires { (Within 200000000000 m) × (0 < d) × (gcd4 m ∣ d) }
     ensures { (result.divisor ≡ gcd4 m) × (result.matrix ≡ cancel_of m) }
 {
-    if d == 1 {
-        return Cancelled {
-            divisor: 1,
-            matrix: m,
-        };
-    }
-    if d == 2 {
-        return halved(m);
-    }
-    let common = shared(m, d);
-    Cancelled {
-        divisor: common,
-        matrix: quotients(m, common),
+    match d {
+        1 => Cancelled::kept(m),
+        2 => halved(m),
+        _ => {
+            let common = shared(m, d);
+            Cancelled {
+                divisor: common,
+                matrix: quotients(m, common),
+            }
+        }
     }
 }

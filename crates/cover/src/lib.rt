@@ -6,8 +6,10 @@ ghost use Rattle.std.specs.Prelude.{◌≡◌, ◌-◌, ◌<◌, ◌≤◌};
 ghost use Rattle.whole.specs.Range.{Within};
 ghost use Rattle.whole.specs.First.{first, found?};
 ghost use Rattle.digits.specs.System.{Small};
-ghost use Rattle.digits.specs.Orders.{lent, Columns, interval_at};
+ghost use Rattle.digits.specs.Orders.{system_of, interval_at};
 ghost use Rattle.cover.specs.Cover.{goes_on_behind?, some_goes_on?, covered?};
+
+use digits::System;
 
 // Whether the interval w goes on behind the right end of v: it holds that end, and does not end there too.
 // With z for that end and x, y for the ends of w: z is held where det(z, x)·det(z, y) is 0 or below, and w ends there where det(z, y) is 0. The two signs tell that of the product.
@@ -27,44 +29,27 @@ fn goes_on_behind(v: [i64; 4], w: [i64; 4]) -> bool
 }
 
 // Whether the interval of some digit below n, from a digit on, goes on behind the right end of v.
-fn goes_on_from(from: usize, n: usize, columns: &[i16], v: [i64; 4]) -> bool
-    requires { (Columns columns.now) × (n ≤ 16) × (Small (lent n columns.now)) × (Within 100 v) }
-    ensures { result ≡ found? (first (λ b. goes_on_behind? v (interval_at columns.now b)) (n - from) from) }
+fn goes_on_from(from: usize, n: usize, system: &System, v: [i64; 4]) -> bool
+    requires { (n ≤ system.now.count) × (system.now.count ≤ 16) × (Small (system_of system.now)) × (Within 100 v) }
+    ensures { result ≡ found? (first (λ b. goes_on_behind? v (interval_at system.now.columns b)) (n - from) from) }
 {
-    let mut b = from;
-    while b < n {
-        if goes_on_behind(v, digits::interval(columns, b)) {
-            return true;
-        }
-        b += 1;
-    }
-    false
+    (from..n).any(|b| goes_on_behind(v, system.interval(b)))
 }
 
 // Whether some digit's interval goes on behind the right end of digit a's, where its own ends. The digits behind a are tried first: most systems are written in the order of the line, and there
 // the next digit goes on.
-fn some_goes_on(n: usize, columns: &[i16], a: usize) -> bool
-    requires { (Columns columns.now) × (n ≤ 16) × (Small (lent n columns.now)) × (a < n) }
-    ensures { result ≡ some_goes_on? (lent n columns.now) (interval_at columns.now a) }
+fn some_goes_on(system: &System, a: usize) -> bool
+    requires { (system.now.count ≤ 16) × (Small (system_of system.now)) × (a < system.now.count) }
+    ensures { result ≡ some_goes_on? (system_of system.now) (interval_at system.now.columns a) }
 {
-    let v = digits::interval(columns, a);
-    if goes_on_from(a + 1, n, columns, v) {
-        return true;
-    }
-    goes_on_from(0, a, columns, v)
+    let v = system.interval(a);
+    goes_on_from(a + 1, system.count, system, v) || goes_on_from(0, a, system, v)
 }
 
 // Whether the closed intervals leave no point out.
-pub fn covered(n: usize, columns: &[i16]) -> bool
-    requires { (Columns columns.now) × (n ≤ 16) × (Small (lent n columns.now)) }
-    ensures { result ≡ covered? (lent n columns.now) }
+pub fn covered(system: &System) -> bool
+    requires { (system.now.count ≤ 16) × (Small (system_of system.now)) }
+    ensures { result ≡ covered? (system_of system.now) }
 {
-    let mut a = 0;
-    while a < n {
-        if !some_goes_on(n, columns, a) {
-            return false;
-        }
-        a += 1;
-    }
-    true
+    (0..system.count).all(|a| some_goes_on(system, a))
 }

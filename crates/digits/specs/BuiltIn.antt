@@ -1,10 +1,9 @@
 -- The three systems that are built in, "(F ; W)", with document 01's numbers and signs.
-use Rattle.std.specs.Prelude.{List, [], ◌∷◌, ◌++◌, ℕ, zero, suc, ◌/◌, ◌%◌, get_or, length, ℤ, pos, negsuc}
-use Rattle.whole.specs.Range.{at}
+use Rattle.std.specs.Prelude.{List, [], ◌∷◌, ◌++◌, ℕ, zero, suc, length, ℤ, pos, negsuc}
 use Rattle.symmetry.specs.Symmetry.{turned, reflected}
 use Rattle.digits.specs.Types.{StoredSystem}
 use Rattle.digits.specs.System.{System}
-use Rattle.digits.specs.Orders.{tabulated, columns_of, as_written}
+use Rattle.digits.specs.Orders.{columns_of, as_written}
 
 -- −n, so that the tables read as they are printed
 abbrev pub minus : ℕ → ℤ
@@ -58,8 +57,3 @@ table_of rs = as_written (length rs) (joined rs)
 unfoldable pub stored : List (List ℤ) → StoredSystem
 unfolding columns_of
 stored rs = record { count = length rs; columns = columns_of (joined rs) }
-
--- the columns of a table of 16 rows: at place p number p/16 of row p%16
-unfoldable pub table_columns : List (List ℤ) → List ℤ
-unfolding tabulated
-table_columns table = tabulated 128 (λ p. at (get_or table (p % 16) []) (p / 16))

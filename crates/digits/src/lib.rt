@@ -1,11 +1,11 @@
 // Digit systems: document 01's section "A digit system". Which systems are admitted is the crate `admission`'s.
-// Public: `System`, and the built-in `system_r`, `system_b`, `system_d`. The crates above lend a system's numbers as a slice, and ask for a digit's `transformation` and `interval`: only this crate
-// knows where they stand.
+// Public: `System`, and the built-in `system_r`, `system_b`, `system_d`. The crates above ask a system for a digit's `transformation` and `interval`: only this crate knows where their numbers
+// stand.
 #![tactic(auto)]
 
-ghost use Rattle.std.specs.Prelude.{◌≡◌, [], ◌∷◌, ◌+◌, ◌<◌, length};
+ghost use Rattle.std.specs.Prelude.{◌≡◌, [], ◌∷◌, ◌+◌, ◌<◌};
 ghost use Rattle.whole.specs.Range.{at};
-ghost use Rattle.digits.specs.Orders.{DigitThere, transformation_at, interval_at};
+ghost use Rattle.digits.specs.Orders.{transformation_at, interval_at};
 
 mod orders; // orders.rt: from rows to columns, and back
 mod tables; // tables.rt: the built-in systems
@@ -21,39 +21,33 @@ pub struct System {
     pub columns: [i16; 128],
 }
 
-// One number of the columns.
-fn number_at(columns: &[i16], p: usize) -> i64
-    requires { p < length columns.now }
-    ensures { result ≡ at columns.now p }
-{
-    columns[p] as i64
-}
+impl System {
+    // Four numbers of a digit: one from each of four columns, from a place on.
+    fn four_from(&self, p: usize) -> [i64; 4]
+        requires { p + 48 < 128 }
+        ensures { result ≡ at self.now.columns p ∷ at self.now.columns (p + 16) ∷ at self.now.columns (p + 32) ∷ at self.now.columns (p + 48) ∷ [] }
+    {
+        [
+            self.columns[p] as i64,
+            self.columns[p + 16] as i64,
+            self.columns[p + 32] as i64,
+            self.columns[p + 48] as i64,
+        ]
+    }
 
-// Four numbers of a digit: one from each of four columns, from a place on.
-fn four_from(columns: &[i16], p: usize) -> [i64; 4]
-    requires { p + 48 < length columns.now }
-    ensures { result ≡ at columns.now p ∷ at columns.now (p + 16) ∷ at columns.now (p + 32) ∷ at columns.now (p + 48) ∷ [] }
-{
-    [
-        number_at(columns, p),
-        number_at(columns, p + 16),
-        number_at(columns, p + 32),
-        number_at(columns, p + 48),
-    ]
-}
+    // Of digit a: its transformation, a b c d.
+    pub fn transformation(&self, a: usize) -> [i64; 4]
+        requires { a < 16 }
+        ensures { result ≡ transformation_at self.now.columns a }
+    {
+        self.four_from(a)
+    }
 
-// Of digit a: its transformation, a b c d.
-pub fn transformation(columns: &[i16], a: usize) -> [i64; 4]
-    requires { DigitThere columns.now a }
-    ensures { result ≡ transformation_at columns.now a }
-{
-    four_from(columns, a)
-}
-
-// And its interval, x0 x1 y0 y1. It reads the four columns of W, and none of F.
-pub fn interval(columns: &[i16], a: usize) -> [i64; 4]
-    requires { DigitThere columns.now a }
-    ensures { result ≡ interval_at columns.now a }
-{
-    four_from(columns, 64 + a)
+    // And its interval, x0 x1 y0 y1. It reads the four columns of W, and none of F.
+    pub fn interval(&self, a: usize) -> [i64; 4]
+        requires { a < 16 }
+        ensures { result ≡ interval_at self.now.columns a }
+    {
+        self.four_from(64 + a)
+    }
 }

@@ -1,6 +1,5 @@
 // From rows, as a system is written, to columns, as it stands in memory, and back.
 ghost use Rattle.std.specs.Prelude.{◌≡◌, ◌≤◌, length};
-ghost use Rattle.whole.specs.Range.{at};
 ghost use Rattle.digits.specs.Orders.{Columns, row_place, column_place, columns_of, rows_in};
 
 // What stands at place p of the columns stands here in the rows.
@@ -17,25 +16,13 @@ pub fn column_place(p: usize) -> usize
     16 * (p % 8) + p / 8
 }
 
-// The number at a place of the rows, and 0 behind them.
-fn number_or_0(rows: &[i16], p: usize) -> i16
-    ensures { result ≡ at rows.now p }
-{
-    if p < rows.len() {
-        return rows[p];
-    }
-    0
-}
-
 // Rows, one behind the other, into columns, with 0 for the digits that have no row.
 pub fn in_columns(rows: &[i16], columns: &mut [i16])
     requires { Columns columns.old }
     ensures { columns.new ≡ columns_of rows.now }
 {
-    let mut p = 0;
-    while p < 128 {
-        columns[p] = number_or_0(rows, row_place(p));
-        p += 1;
+    for p in 0..128 {
+        columns[p] = rows.get(row_place(p)).copied().unwrap_or(0);
     }
 }
 
@@ -44,9 +31,7 @@ pub fn in_rows(columns: &[i16], rows: &mut [i16])
     requires { (Columns columns.now) × (length rows.old ≤ 128) }
     ensures { rows.new ≡ rows_in (length rows.old) columns.now }
 {
-    let mut p = 0;
-    while p < rows.len() {
-        rows[p] = columns[16 * (p % 8) + p / 8];
-        p += 1;
+    for p in 0..rows.len() {
+        rows[p] = columns[column_place(p)];
     }
 }

@@ -1,82 +1,52 @@
-// The three systems that are built in: R and D by their tables, in rows as document 01 prints them, B by its row 0; and how a table becomes columns.
+// The three systems that are built in: R and D by their tables, in rows as document 01 prints them, B by its row 0; and how a table becomes a system.
 ghost use Rattle.std.specs.Prelude.{◌≡◌};
-ghost use Rattle.digits.specs.BuiltIn.{stored, rows_r, rows_b, rows_d, table_columns};
+ghost use Rattle.digits.specs.BuiltIn.{stored, rows_r, rows_b, rows_d};
 
 use crate::System;
-
-// A row that no digit uses.
-const NO_ROW: [i16; 8] = [0, 0, 0, 0, 0, 0, 0, 0];
+use crate::orders::in_columns;
 
 // The built-in systems R and D, a row of eight numbers for each digit: F as a b c d, then W as x0 x1 y0 y1.
-const R: [[i16; 8]; 16] = [
+const R: [[i16; 8]; 4] = [
     [1, 0, 1, 1, 0, 1, 1, 1],
     [1, 1, 0, 1, 1, 1, 1, 0],
     [1, -1, 0, 1, 1, 0, 1, -1],
     [1, 0, -1, 1, -1, 1, 0, 1],
-    NO_ROW,
-    NO_ROW,
-    NO_ROW,
-    NO_ROW,
-    NO_ROW,
-    NO_ROW,
-    NO_ROW,
-    NO_ROW,
-    NO_ROW,
-    NO_ROW,
-    NO_ROW,
-    NO_ROW,
 ];
 
-const D: [[i16; 8]; 16] = [
+const D: [[i16; 8]; 4] = [
     [1, -1, 0, 2, -2, 1, 0, 1],
     [1, 0, 0, 2, -1, 2, 1, 2],
     [1, 1, 0, 2, 0, 1, 2, 1],
     [2, 0, 0, 1, 3, 2, 3, -2],
-    NO_ROW,
-    NO_ROW,
-    NO_ROW,
-    NO_ROW,
-    NO_ROW,
-    NO_ROW,
-    NO_ROW,
-    NO_ROW,
-    NO_ROW,
-    NO_ROW,
-    NO_ROW,
-    NO_ROW,
 ];
 
 // Of B the row of its digit 0, in the same order. The other seven are worked out from it.
 const B: [i16; 8] = [1, 0, 1, 2, -1, 3, 1, 1];
 
-// The columns of a table.
-fn columns(table: [[i16; 8]; 16]) -> [i16; 128]
-    ensures { result ≡ table_columns table }
+// The system that a table is: as many digits as it has rows.
+fn system(rows: &[[i16; 8]]) -> System
+    ensures { result ≡ stored rows.now }
 {
-    let mut columns = [0i16; 128];
-    let mut p = 0;
-    while p < 128 {
-        let row = table[p % 16];
-        columns[p] = row[p / 16];
-        p += 1;
+    let mut columns = [0; 128];
+    in_columns(rows.as_flattened(), &mut columns);
+    System {
+        count: rows.len(),
+        columns,
     }
-    columns
 }
 
 // The built-in system R (document 000).
 pub fn system_r() -> System
     ensures { result ≡ stored rows_r }
 {
-    let columns = columns(R);
-    System { count: 4, columns }
+    system(&R)
 }
 
 // The built-in system D (document 004, binary redundant).
 pub fn system_d() -> System
     ensures { result ≡ stored rows_d }
 {
-    let columns = columns(D);
-    System { count: 4, columns }
+    system(&D)
 }
 
 // The built-in system B (document 001, the maximal cover), by its two laws (crates/symmetry): 0 to 2 to 4 by turning, 0 to 7 by reflecting, 7 to 1 to 3 to 5 by turning, 1 to 6 by reflecting. By
@@ -91,9 +61,5 @@ pub fn system_b() -> System
     let b3 = symmetry::turn(b1);
     let b5 = symmetry::turn(b3);
     let b6 = symmetry::reflect(b1);
-    let columns = columns([
-        B, b1, b2, b3, b4, b5, b6, b7, NO_ROW, NO_ROW, NO_ROW, NO_ROW, NO_ROW, NO_ROW, NO_ROW,
-        NO_ROW,
-    ]);
-    System { count: 8, columns }
+    system(&[B, b1, b2, b3, b4, b5, b6, b7])
 }

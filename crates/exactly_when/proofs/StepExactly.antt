@@ -3,7 +3,7 @@
 -- does, there is room or none, there is a place in the list or none, an entry leaves the range or none.
 use Rattle.whole.proofs.Laws.{◌≡◌, refl, sym, subst, List, [], ◌∷◌, inl, inr, ◌↔◌, Option, none, some, ℕ, suc, ◌-◌, ◌<◌, dec_lt, eq-zero-or-pos, arith, le-ltb, lt-ltb, says_within}
 use Rattle.runs.proofs.Laws.{Supply, Outcome, follow}
-use Rattle.states.proofs.Laws.{Held, Nothing, Digit, State, Stop, HeldDigit}
+use Rattle.states.proofs.Laws.{Held, None, Some, State, Stop, HeldDigit}
 use Rattle.steps.proofs.Laws.{Setting, chosen, plain}
 use Rattle.exactly_when.specs.Lines.{Choice, given_x, absorbed_x, Line, no_input, no_digit, takes, no_room, giving_unlisted, giving_leaves, gives, absorbing_unlisted, absorbing_leaves, absorbs}
 use Rattle.exactly_when.specs.Ends.{Passes}
@@ -11,7 +11,7 @@ use Rattle.exactly_when.proofs.Chosen.{chosen_exactly}
 use Rattle.exactly_when.proofs.Leaving.{leaves_or_within, leaves_exactly}
 
 module _ (y : Setting) (s : State) (r : Supply) (p : Passes y s) where
-  choice_is : (h : ℕ) → s.held ≡ Digit h → (o : Option ℕ) → (chosen y s h ≡ o) ↔ Choice y s h o
+  choice_is : (h : ℕ) → s.held ≡ Some h → (o : Option ℕ) → (chosen y s h ≡ o) ↔ Choice y s h o
   choice_is h e = chosen_exactly y p.input.digits p.output.digits s (record { above = p.state.above }) h (subst (HeldDigit y.input.count) e p.state.held_digit)
 
   place_is : {n : ℕ} → 0 < n → n ≡ suc (n - 1)
@@ -35,14 +35,14 @@ module _ (y : Setting) (s : State) (r : Supply) (p : Passes y s) where
   line_only (absorbing_leaves h e n p l) = rw (e, (choice_is h e none).1 n, place_is {n = r.list} (omega arith), (leaves_exactly (absorbed_x y s h)).1 l)
   line_only (absorbs h e n p w) = rw (e, (choice_is h e none).1 n, place_is {n = r.list} (omega arith), says_within w)
 
-  abbrev Some : Type 0
-  Some = (v : Outcome State Stop) × Line y s r v
+  abbrev Applies : Type 0
+  Applies = (v : Outcome State Stop) × Line y s r v
 
-  by_byte : s.held ≡ Nothing → (l : List ℕ) → r.x ≡ l → Some
+  by_byte : s.held ≡ None → (l : List ℕ) → r.x ≡ l → Applies
   by_byte e [] f = (_, no_input e f)
   by_byte e (b ∷ rest) f = elim (dec_lt b y.input.count) [ yes k ↦ (_, takes e b rest f k) | no k ↦ (_, no_digit e b rest f (omega arith)) ]
 
-  by_choice : (h : ℕ) → s.held ≡ Digit h → (o : Option ℕ) → chosen y s h ≡ o → Some
+  by_choice : (h : ℕ) → s.held ≡ Some h → (o : Option ℕ) → chosen y s h ≡ o → Applies
   by_choice h e none c =
       let n = (choice_is h e none).0 c in
       elim (eq-zero-or-pos r.list) [
@@ -59,9 +59,9 @@ module _ (y : Setting) (s : State) (r : Supply) (p : Passes y s) where
         ]
       ]
 
-  by_held : (k : Held) → s.held ≡ k → Some
-  by_held Nothing e = by_byte e r.x refl
-  by_held (Digit h) e = by_choice h e (chosen y s h) refl
+  by_held : (k : Held) → s.held ≡ k → Applies
+  by_held None e = by_byte e r.x refl
+  by_held (Some h) e = by_choice h e (chosen y s h) refl
 
   pub step_says : Line y s r ((plain y).step s r)
   step_says = let c = by_held s.held refl in subst (Line y s r) (sym (line_only c.1)) c.1

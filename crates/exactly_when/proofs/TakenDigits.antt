@@ -4,7 +4,7 @@
 use Rattle.whole.proofs.Laws.{subst, List, [], ◌∷◌, ◌++◌, Option, none, some, ℕ, ◌<◌, ltb-true, ltb, length, drop, get_or, List·getD-append}
 use Rattle.digits.proofs.Laws.{System}
 use Rattle.runs.proofs.Laws.{Supply, Deed, nothing, Course, Each, Going, took_x, gave, follow_each, each_test, keeps, runs, either}
-use Rattle.states.proofs.Laws.{Held, Nothing, Digit, State, Stop, NotADigit, Refused, loaded, given, absorbed}
+use Rattle.states.proofs.Laws.{Held, None, Some, State, Stop, NotADigit, Refused, loaded, given, absorbed}
 use Rattle.steps.proofs.Laws.{Setting, setting, plain, plan, plan_by, held_plan, chosen, given_matrix, absorbed_matrix, one_word, lawful, each_cancelled, Below, every_at, every_both}
 use Rattle.judging.proofs.Laws.{refusal_of}
 use Rattle.unary.proofs.Laws.{course_of, run_of, course_in_range}
@@ -24,9 +24,9 @@ module _ (y : Setting) (a : Deed) (digits : Below y.input.count a.x) (s : State)
 
   plan_takes : (h : Held) → Each Digits nothing (plan_by y s h)
   unfolding Each
-  plan_takes Nothing = λ b. each_test Digits (took_x b) (ltb b y.input.count) (loaded s b) NotADigit
+  plan_takes None = λ b. each_test Digits (took_x b) (ltb b y.input.count) (loaded s b) NotADigit
       (λ w. every_both (λ b. b < y.input.count) a.x (b ∷ []) digits (ltb-true b y.input.count w, tt))
-  plan_takes (Digit h) = held_takes h (chosen y s h)
+  plan_takes (Some h) = held_takes h (chosen y s h)
 
   step_takes : (r : Supply) → Going Digits ((plain y).step s r)
   step_takes r = follow_each Digits (plan y s) (plan_takes s.held) r

@@ -3,7 +3,7 @@ use Rattle.std.specs.Prelude.{◌≡◌, ◌⊎◌, List, ℕ, ◌≤◌, ◌<�
 use Rattle.admission.specs.Types.{Admission, Admitted}
 use Rattle.admission.specs.Admission.{refusal_number}
 use Rattle.admission.specs.Admitted.{Admissible, SystemCase}
-use Rattle.states.specs.Types.{Nothing, Digit, State, Stop, InputUsed, ListFull, NoRoom, NotADigit, RangeLeft, Refused}
+use Rattle.states.specs.Types.{None, Some, State, Stop, InputUsed, ListFull, NoRoom, NotADigit, RangeLeft, Refused}
 use Rattle.states.specs.State.{StateRules}
 use Rattle.steps.specs.Step.{Setting}
 use Rattle.runs.specs.Run.{stopped}
@@ -29,19 +29,19 @@ pub record Passes (y : Setting) (s : State) : Type 0 where
 
 -- "Nothing held and no input left"
 pub record InputLeftNone (input : List ℕ) (r : Answer) : Type 0 where
-  pub free : r.state.held ≡ Nothing
+  pub free : r.state.held ≡ None
   pub all_taken : r.taken.0 ≡ length input
 
 -- "Nothing held and the next byte is no digit of the input system": the byte behind the taken ones
 pub record ByteNoDigit (y : Setting) (input : List ℕ) (r : Answer) : Type 0 where
-  pub free : r.state.held ≡ Nothing
+  pub free : r.state.held ≡ None
   pub there : r.taken.0 < length input
   pub no_digit : y.input.count ≤ get_or input r.taken.0 0
 
 -- "Some U_b includes X·W_held .. No room in the output"
 pub record OutputFull (y : Setting) (output : List ℕ) (r : Answer) : Type 0 where
   pub held : ℕ
-  pub holds : r.state.held ≡ Digit held
+  pub holds : r.state.held ≡ Some held
   pub digit : ℕ
   pub smallest : Smallest y r.state held digit
   pub full : r.written.0 ≡ length output
@@ -54,14 +54,14 @@ GivesOrAbsorbs y output r held Giving Absorbing =
 -- "15, the list is full, in steps 4 and 5, after 20"
 pub record ListIsFull (y : Setting) (output divisors : List ℕ) (r : Answer) : Type 0 where
   pub held : ℕ
-  pub holds : r.state.held ≡ Digit held
+  pub holds : r.state.held ≡ Some held
   pub step : GivesOrAbsorbs y output r held (λ b. Unit {0}) (Unit {0})
   pub full : r.listed.0 ≡ length divisors
 
 -- "if an entry leaves the range", and the list is not full
 pub record EntryLeaves (y : Setting) (output divisors : List ℕ) (r : Answer) : Type 0 where
   pub held : ℕ
-  pub holds : r.state.held ≡ Digit held
+  pub holds : r.state.held ≡ Some held
   pub place : r.listed.0 < length divisors
   pub leaves : GivesOrAbsorbs y output r held (λ b. Leaves (given_x y r.state b)) (Leaves (absorbed_x y r.state held))
 
@@ -87,7 +87,7 @@ RunCase y s input output divisors r RangeLeft = Passes y s × EndCase y input ou
 -- next
 pub data Over (y : Setting) (t : State) (room list : List ℕ) : Ran → Type 0 where
   with_room : 1 ≤ length room → 1 ≤ length list → Over y t room list (leaves (stopped RangeLeft t) room list)
-  none_fits : (h : ℕ) → t.held ≡ Digit h → NoneFits y t h → 1 ≤ length list → Over y t room list (leaves (stopped RangeLeft t) room list)
-  without_room : (h : ℕ) → t.held ≡ Digit h → (b : ℕ) → Smallest y t h b → length room ≡ 0 → Over y t room list (leaves (stopped NoRoom t) room list)
+  none_fits : (h : ℕ) → t.held ≡ Some h → NoneFits y t h → 1 ≤ length list → Over y t room list (leaves (stopped RangeLeft t) room list)
+  without_room : (h : ℕ) → t.held ≡ Some h → (b : ℕ) → Smallest y t h b → length room ≡ 0 → Over y t room list (leaves (stopped NoRoom t) room list)
   without_list : 1 ≤ length room → length list ≡ 0 → Over y t room list (leaves (stopped ListFull t) room list)
-  none_fits_unlisted : (h : ℕ) → t.held ≡ Digit h → NoneFits y t h → length list ≡ 0 → Over y t room list (leaves (stopped ListFull t) room list)
+  none_fits_unlisted : (h : ℕ) → t.held ≡ Some h → NoneFits y t h → length list ≡ 0 → Over y t room list (leaves (stopped ListFull t) room list)

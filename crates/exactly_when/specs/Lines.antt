@@ -9,7 +9,7 @@ use Rattle.plane.specs.Plane.{cancel_of}
 use Rattle.runs.specs.Supply.{Supply}
 use Rattle.runs.specs.Machine.{Outcome, goes, halts}
 use Rattle.runs.specs.Plan.{took_x, gave_by, listed}
-use Rattle.states.specs.Types.{Nothing, Digit, State, Stop, InputUsed, ListFull, NoRoom, NotADigit, RangeLeft}
+use Rattle.states.specs.Types.{None, Some, State, Stop, InputUsed, ListFull, NoRoom, NotADigit, RangeLeft}
 use Rattle.states.specs.State.{loaded, given, absorbed}
 use Rattle.steps.specs.Step.{Setting, given_matrix, absorbed_matrix}
 use Rattle.meaning.specs.Moments.{Fits}
@@ -51,21 +51,21 @@ absorbed_divisor y s h = gcd4 (absorbed_matrix y.input s h)
 -- The step from the state s, before the bytes, the room and the list of r, and what comes of it.
 pub data Line (y : Setting) (s : State) (r : Supply) : Outcome State Stop → Type 0 where
   -- 1. "Nothing held and no input left: stop, end 0."
-  no_input : s.held ≡ Nothing → r.x ≡ [] → Line y s r (halts InputUsed)
+  no_input : s.held ≡ None → r.x ≡ [] → Line y s r (halts InputUsed)
   -- 2. "Nothing held and the next byte is no digit of the input system: stop, end 21. The byte is not taken."
-  no_digit : s.held ≡ Nothing → (b : ℕ) (rest : List ℕ) → r.x ≡ b ∷ rest → y.input.count ≤ b → Line y s r (halts NotADigit)
+  no_digit : s.held ≡ None → (b : ℕ) (rest : List ℕ) → r.x ≡ b ∷ rest → y.input.count ≤ b → Line y s r (halts NotADigit)
   -- 3. "Nothing held: take the byte as the held digit. X stays."
-  takes : s.held ≡ Nothing → (b : ℕ) (rest : List ℕ) → r.x ≡ b ∷ rest → b < y.input.count → Line y s r (goes (loaded s b) (took_x b))
+  takes : s.held ≡ None → (b : ℕ) (rest : List ℕ) → r.x ≡ b ∷ rest → b < y.input.count → Line y s r (goes (loaded s b) (took_x b))
   -- 4. "Some U_b includes X·W_held: let b be the smallest. No room in the output: stop, end 20. Else X becomes pseudoinverse(G_b)·X, cancelled;
   -- if an entry leaves the range: stop, end 22; else write b." The list is asked for in between, and the divisor stands in it.
-  no_room : (h : ℕ) → s.held ≡ Digit h → (b : ℕ) → Smallest y s h b → r.room ≡ 0 → Line y s r (halts NoRoom)
-  giving_unlisted : (h : ℕ) → s.held ≡ Digit h → (b : ℕ) → Smallest y s h b → 0 < r.room → r.list ≡ 0 → Line y s r (halts ListFull)
-  giving_leaves : (h : ℕ) → s.held ≡ Digit h → (b : ℕ) → Smallest y s h b → 0 < r.room → 0 < r.list → Leaves (given_x y s b) →
+  no_room : (h : ℕ) → s.held ≡ Some h → (b : ℕ) → Smallest y s h b → r.room ≡ 0 → Line y s r (halts NoRoom)
+  giving_unlisted : (h : ℕ) → s.held ≡ Some h → (b : ℕ) → Smallest y s h b → 0 < r.room → r.list ≡ 0 → Line y s r (halts ListFull)
+  giving_leaves : (h : ℕ) → s.held ≡ Some h → (b : ℕ) → Smallest y s h b → 0 < r.room → 0 < r.list → Leaves (given_x y s b) →
       Line y s r (halts RangeLeft)
-  gives : (h : ℕ) → s.held ≡ Digit h → (b : ℕ) → Smallest y s h b → 0 < r.room → 0 < r.list → Within 1000000000 (given_x y s b) →
+  gives : (h : ℕ) → s.held ≡ Some h → (b : ℕ) → Smallest y s h b → 0 < r.room → 0 < r.list → Within 1000000000 (given_x y s b) →
       Line y s r (goes (given s (given_x y s b)) (gave_by b (given_divisor y s b)))
   -- 5. "No U_b does: X becomes X·F_held, cancelled, and nothing is held; if an entry leaves the range: stop, end 22." The list is asked for first.
-  absorbing_unlisted : (h : ℕ) → s.held ≡ Digit h → NoneFits y s h → r.list ≡ 0 → Line y s r (halts ListFull)
-  absorbing_leaves : (h : ℕ) → s.held ≡ Digit h → NoneFits y s h → 0 < r.list → Leaves (absorbed_x y s h) → Line y s r (halts RangeLeft)
-  absorbs : (h : ℕ) → s.held ≡ Digit h → NoneFits y s h → 0 < r.list → Within 1000000000 (absorbed_x y s h) →
+  absorbing_unlisted : (h : ℕ) → s.held ≡ Some h → NoneFits y s h → r.list ≡ 0 → Line y s r (halts ListFull)
+  absorbing_leaves : (h : ℕ) → s.held ≡ Some h → NoneFits y s h → 0 < r.list → Leaves (absorbed_x y s h) → Line y s r (halts RangeLeft)
+  absorbs : (h : ℕ) → s.held ≡ Some h → NoneFits y s h → 0 < r.list → Within 1000000000 (absorbed_x y s h) →
       Line y s r (goes (absorbed s (absorbed_x y s h)) (listed (absorbed_divisor y s h)))

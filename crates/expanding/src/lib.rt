@@ -4,8 +4,10 @@
 
 ghost use Rattle.std.specs.Prelude.{◌≡◌, ◌≤◌};
 ghost use Rattle.whole.specs.Range.{Near, Within};
-ghost use Rattle.digits.specs.Orders.{lent, Columns};
+ghost use Rattle.digits.specs.Orders.{system_of};
 ghost use Rattle.expanding.specs.Expanding.{form_of, grows?, expands?, all_expand?, SmallRows};
+
+use digits::System;
 
 // The symmetric matrix q with z·(q·z) = det F·(z0² + z1²) − (squared length of pseudoinverse(F)·z). With s the product of F and F with its rows for columns,
 // [a² + b², ac + bd, ca + db, c² + d²], it is [det F − (c² + d²), ac + bd, ca + db, det F − (a² + b²)].
@@ -49,17 +51,9 @@ fn expands(f: [i64; 4], w: [i64; 4]) -> bool
 }
 
 // Whether every row expands.
-pub fn all_expand(n: usize, columns: &[i16]) -> bool
-    requires { (Columns columns.now) × (n ≤ 16) × (SmallRows (lent n columns.now)) }
-    ensures { result ≡ all_expand? (lent n columns.now) }
+pub fn all_expand(system: &System) -> bool
+    requires { (system.now.count ≤ 16) × (SmallRows (system_of system.now)) }
+    ensures { result ≡ all_expand? (system_of system.now) }
 {
-    let mut a = 0;
-    while a < n {
-        let f = digits::transformation(columns, a);
-        if !expands(f, digits::interval(columns, a)) {
-            return false;
-        }
-        a += 1;
-    }
-    true
+    (0..system.count).all(|a| expands(system.transformation(a), system.interval(a)))
 }

@@ -3,4 +3,4 @@ pub use Rattle.fitting.proofs.FirstFit.{FirstFits, fitting_exactly, same_fitting
 -- the definitions
 pub use Rattle.fitting.specs.FirstFit.{Searchable, fitting, fits, fits?}
 unfoldable pub use Rattle.fitting.specs.FirstFit.{fitting_of}
-pub use Rattle.fitting.specs.Types.{Fitting, At, Missing}
+pub use Rattle.fitting.specs.Types.{Fitting, Some, None}

@@ -6,7 +6,7 @@ use Rattle.whole.specs.Range.{Within}
 use Rattle.plane.specs.Plane.{Interval}
 use Rattle.inclusion.specs.Inclusion.{included?}
 use Rattle.digits.specs.System.{System, interval}
-use Rattle.fitting.specs.Types.{Fitting, At, Missing}
+use Rattle.fitting.specs.Types.{Fitting, Some, None}
 
 -- what the search relies on: intervals, of numbers so small that no determinant of theirs leaves 64 bits
 pub record Searchable (s : System) : Type 0 where
@@ -21,9 +21,9 @@ fitting_of output image = first (fits? output image) output.count 0
 
 -- what `Fitting` stands for, and back
 abbrev pub fitting : Option ℕ → Fitting
-fitting none = Missing
-fitting (some b) = At b
+fitting none = None
+fitting (some b) = Some b
 
 abbrev pub fits : Fitting → Option ℕ
-fits Missing = none
-fits (At b) = some b
+fits None = none
+fits (Some b) = some b

@@ -1,7 +1,5 @@
 -- The test as the code asks it, image by image: what the words hold, and how the answers for single images make the answer for all four.
-use Rattle.whole.proofs.Laws.{◌≡◌, refl, sym, ◌∙◌, ap, Bool, true, false, false≢true, not, ◌&&◌, ◌||◌, List, [], ◌∷◌, ℕ, suc, ◌-◌, ◌^◌, arith, length, eqb, ne_eqb, ℤ, pos, negsuc, nat_abs, le_z, at, Near, Within, back, near_back, back_of_lem, held, Fits}
-use mir.Syntax.{w64}
-use mir.Val.{of_z}
+use Rattle.whole.proofs.Laws.{◌≡◌, refl, ◌∙◌, ap, Bool, true, false, false≢true, not, ◌&&◌, ◌||◌, List, ℕ, ℤ, pos, le_z, at, Near, back, held}
 use Rattle.plane.proofs.Laws.{Pair, pair_equal}
 use Rattle.bilinear.proofs.Laws.{Form}
 use Rattle.giving.specs.MayGive.{coefficients, all_coefficients, none_below?, none_above?, one_sided?, columns_of_form}
@@ -15,26 +13,10 @@ image m i = record { z0 = at m.numerator i; z1 = at m.denominator i }
 abbrev pub coefficients_at : List ℤ → Form → ℕ → List ℤ
 coefficients_at u m i = coefficients u (image m i)
 
--- what the code asks of the two numbers of an image, and what it gets
+-- what the code gets of the two numbers of an image
 module _ {a b : ℤ} (p : Near 40000000000000 a) (q : Near 40000000000000 b) where
-  pub image_asks : {u : List ℤ} → Within 100 u → (Near 40000000000000 (held a)) × (Near 40000000000000 (held b)) × (Within 100 u)
-  image_asks k = (near_back p tt, near_back q tt, k)
-
   pub image_gets : (u : List ℤ) {c : List ℤ} → c ≡ coefficients u (record { z0 = held a; z1 = held b }) → c ≡ coefficients u (record { z0 = a; z1 = b })
   image_gets u e = e ∙ ap (coefficients u) (pair_equal (back p tt) (back q tt))
-
--- a test t of every number of a list of two, asked of what the words hold
-pub of_two : (t : ℤ → Bool) (every : List ℤ → Bool) → ((a b : ℤ) → every (a ∷ b ∷ []) ≡ (t a && (t b && true))) →
-    (c : List ℤ) → length c ≡ 2 → Fits (at c 0) → Fits (at c 1) → (t (held (at c 0)) && t (held (at c 1))) ≡ every c
-of_two t every is [] e f g = absurd (omega arith)
-of_two t every is (a ∷ []) e f g = absurd (omega arith)
-of_two t every is (a ∷ b ∷ []) e f g = (λ i. t (back_of_lem a f i) && t (back_of_lem b g i)) ∙ both (t a) (t b) ∙ sym (is a b)
-  where
-    both : (p q : Bool) → (p && q) ≡ (p && (q && true))
-    both false q = refl
-    both true false = refl
-    both true true = refl
-of_two t every is (a ∷ b ∷ d ∷ c) e f g = absurd (omega arith)
 
 -- ---- "all ≥ 0 or all ≤ 0", of four images
 
@@ -73,17 +55,3 @@ module _ (u : List ℤ) (m : Form) where
   pub first_fails : not (none_below? (of 0) || none_above? (of 0)) ≡ true → one_sided? (all_coefficients u (columns_of_form m)) ≡ false
   first_fails e = by_images ∙ neither (none_below? (of 0)) (none_below? (of 1)) (none_below? (of 2)) (none_below? (of 3))
       (none_above? (of 0)) (none_above? (of 1)) (none_above? (of 2)) (none_above? (of 3)) e
-
--- ---- "no image is (0, 0)"
-
--- a word that holds z is 0 just where z is
-pub word_nought : (z : ℤ) → Fits z → eqb (of_z w64 z) 0 ≡ eqb (nat_abs z) 0
-word_nought (pos n) f = refl
-word_nought (negsuc n) f = ne_eqb (2 ^ 64 - suc n) 0 (λ e. omega (arith, f)) ∙ sym (ne_eqb (suc n) 0 (λ e. omega arith))
-
-pub one_of_four : (a b c d : Bool) → (a || b || c || d) ≡ (a || (b || (c || (d || false))))
-one_of_four true b c d = refl
-one_of_four false true c d = refl
-one_of_four false false true d = refl
-one_of_four false false false true = refl
-one_of_four false false false false = refl

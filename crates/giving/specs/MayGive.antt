@@ -1,6 +1,6 @@
 -- "A digit c may be given out exactly if the four images of the pairs of interval ends, written in the two ends of U_c, have coefficients all ≥ 0 or all
 -- ≤ 0, and no image is (0, 0); the smallest such c." (document 02, T-14)
-use Rattle.std.specs.Prelude.{◌≡◌, Bool, true, false, not, ◌&&◌, ◌||◌, List, [], ◌∷◌, ◌++◌, ℕ, eqb, ℤ, pos, nat_abs}
+use Rattle.std.specs.Prelude.{Bool, true, false, not, ◌&&◌, ◌||◌, List, [], ◌∷◌, ◌++◌, ℕ, eqb, ℤ, pos, nat_abs}
 use Rattle.std.proofs.Math.Option.{Option}
 use Rattle.std.specs.Int.Signed.{le_z}
 use Rattle.whole.specs.First.{first}

@@ -5,12 +5,12 @@ ghost use Rattle.std.specs.Prelude.{◌≡◌, ◌≤◌};
 ghost use Rattle.whole.specs.Range.{at, Near, Within};
 ghost use Rattle.plane.specs.Plane.{left};
 ghost use Rattle.bilinear.specs.Lowest.{WithinForm};
-ghost use Rattle.digits.specs.Orders.{lent, Columns};
+ghost use Rattle.digits.specs.Orders.{system_of};
 ghost use Rattle.fitting.specs.FirstFit.{Searchable, fitting};
 ghost use Rattle.giving.specs.MayGive.{images_of, coefficients, all_coefficients, none_below?, none_above?, one_sided?, some_nought?, giving_of, columns_of_form};
 
 use bilinear::Form;
-use fitting::Fitting;
+use digits::System;
 
 // The four images of the pairs of interval ends, formed once for all digits that are tried: the ends of v absorbed in x, and those of w in y.
 pub fn images(m: Form, v: [i64; 4], w: [i64; 4]) -> Form
@@ -18,11 +18,9 @@ pub fn images(m: Form, v: [i64; 4], w: [i64; 4]) -> Form
     ensures { (columns_of_form result ≡ images_of m v w) × (WithinForm 40000000000000 result) }
 {
     let t = bilinear::turned_over(w);
-    let over = m.numerator;
-    let under = m.denominator;
     Form {
-        numerator: products::multiply(products::multiply(v, over), t),
-        denominator: products::multiply(products::multiply(v, under), t),
+        numerator: products::multiply(products::multiply(v, m.numerator), t),
+        denominator: products::multiply(products::multiply(v, m.denominator), t),
     }
 }
 
@@ -37,7 +35,7 @@ fn coefficients_of(z: [i64; 2], u: [i64; 4]) -> [i64; 2]
     ]
 }
 
-// "all ≥ 0", of the two coefficients of one image.
+// "all ≥ 0", of the two coefficients of one image. (Both are looked at, here and below, so that there is nothing to branch on but the answer: `all` stops at the first that fails.)
 fn none_below(c: [i64; 2]) -> bool
     ensures { result ≡ none_below? c }
 {
@@ -51,13 +49,15 @@ fn none_above(c: [i64; 2]) -> bool
     (c[0] <= 0) & (c[1] <= 0)
 }
 
-// Whether the coefficients of four images in the ends of u are all ≥ 0 or all ≤ 0. Most often the first image settles that they are not.
+// Whether the coefficients of four images in the ends of u are all ≥ 0 or all ≤ 0. Most often the first image settles that they are not; the other three are asked together.
 fn one_sided(images: Form, u: [i64; 4]) -> bool
     requires { (WithinForm 40000000000000 images) × (Within 100 u) }
     ensures { result ≡ one_sided? (all_coefficients u (columns_of_form images)) }
 {
-    let over = images.numerator;
-    let under = images.denominator;
+    let Form {
+        numerator: over,
+        denominator: under,
+    } = images;
     let first = coefficients_of([over[0], under[0]], u);
     let up = none_below(first);
     let down = none_above(first);
@@ -75,28 +75,21 @@ fn one_sided(images: Form, u: [i64; 4]) -> bool
 fn some_nought(images: Form) -> bool
     ensures { result ≡ some_nought? (columns_of_form images) }
 {
-    let over = images.numerator;
-    let under = images.denominator;
-    ((over[0] == 0) & (under[0] == 0))
-        | ((over[1] == 0) & (under[1] == 0))
-        | ((over[2] == 0) & (under[2] == 0))
-        | ((over[3] == 0) & (under[3] == 0))
+    (0..4).any(|i: usize| (images.numerator[i] == 0) & (images.denominator[i] == 0))
 }
 
 // "the smallest such c"
-pub fn giving_digit(count: usize, columns: &[i16], images: Form) -> Fitting
-    requires { (Columns columns.now) × (count ≤ 16) × (Searchable (lent count columns.now)) × (WithinForm 40000000000000 images) }
-    ensures { result ≡ fitting (giving_of (lent count columns.now) (columns_of_form images)) }
+pub fn giving_digit(outputs: &System, images: Form) -> Option<u8>
+    requires { (outputs.now.count ≤ 16) × (Searchable (system_of outputs.now)) × (WithinForm 40000000000000 images) }
+    ensures { result ≡ fitting (giving_of (system_of outputs.now) (columns_of_form images)) }
 {
     if some_nought(images) {
-        return Fitting::Missing;
+        return None;
     }
-    let mut c = 0;
-    while c < count {
-        if one_sided(images, digits::interval(columns, c)) {
-            return Fitting::At(c as u8);
+    for c in 0..outputs.count {
+        if one_sided(images, outputs.interval(c)) {
+            return Some(c as u8);
         }
-        c += 1;
     }
-    Fitting::Missing
+    None
 }

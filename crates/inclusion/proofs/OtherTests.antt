@@ -3,8 +3,8 @@
 -- ends as points, and never passes wrongly. P2 and P3 are cases of the first, and every interval is, with itself, a case of the second, as P1.
 -- The argument: the three tests are put together from the same five answers, and where they differ is seen by trying these out (`round_of`, `equal_of`); what the
 -- answers say is in InclusionTests.antt, and that `included?` is never wrong in Inclusion.antt.
-use Rattle.whole.proofs.Laws.{◌≡◌, refl, sym, ◌∙◌, Bool, true, false, not, ◌&&◌, ◌||◌, false≢true, true≢false, List, [], ◌∷◌, ◌↔◌, ℤ, pos, neg_ℤ, lt_z_yes, at, ◌⊗◌, #, ◌≦◌, ◌≺◌, linear, ◌from◌, claim, both_true, true_both, false_by}
-use Rattle.plane.proofs.Laws.{det_e, Point, left, right, Interval, Closed, left_point, right_point, same_refl, same_sym, closed_same}
+use Rattle.whole.proofs.Laws.{◌≡◌, refl, sym, ◌∙◌, Bool, true, false, not, ◌&&◌, ◌||◌, false≢true, true≢false, List, [], ◌∷◌, ◌↔◌, ℤ, pos, neg_ℤ, lt_z_yes, at, ◌⊗◌, #, ◌≦◌, linear, ◌from◌, claim, both_true, true_both, false_by}
+use Rattle.plane.proofs.Laws.{det_e, left, right, Interval, Closed, left_point, right_point, same_refl, same_sym, closed_same}
 use Rattle.inclusion.specs.Inclusion.{closed?, same?, included?}
 use Rattle.inclusion.specs.OtherTests.{test000, test001, WronglyPasses, WronglyFails, SameEndPoints, GoesRound}
 use Rattle.inclusion.proofs.InclusionTests.{closed_says, says_closed, same_says, says_same}

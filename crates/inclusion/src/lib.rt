@@ -14,9 +14,10 @@ pub fn sides(x0: i64, x1: i64, j: [i64; 4]) -> [i64; 2]
     requires { (Near 200000000000 x0) × (Near 200000000000 x1) × (Within 100 j) }
     ensures { result ≡ sides_of x0 x1 j }
 {
+    let [u0, u1, v0, v1] = j;
     [
-        plane::determinant([x0, x1, j[0], j[1]]),
-        plane::determinant([x0, x1, j[2], j[3]]),
+        plane::determinant([x0, x1, u0, u1]),
+        plane::determinant([x0, x1, v0, v1]),
     ]
 }
 
@@ -27,14 +28,8 @@ pub fn included(i: [i64; 4], j: [i64; 4]) -> bool
     requires { (Within 200000000000 i) × (Within 100 j) × (Interval i) × (Interval j) }
     ensures { result ≡ included? i j }
 {
-    let x0 = i[0];
-    let x1 = i[1];
-    let y0 = i[2];
-    let y1 = i[3];
-    let u0 = j[0];
-    let u1 = j[1];
-    let v0 = j[2];
-    let v1 = j[3];
+    let [x0, x1, y0, y1] = i;
+    let [u0, u1, v0, v1] = j;
     let p = plane::determinant([x0, x1, u0, u1]);
     let s = plane::determinant([y0, y1, v0, v1]);
     if p < 0 {
@@ -69,10 +64,7 @@ pub fn wide(i: [i64; 4]) -> bool
     requires { Within 200000000000 i }
     ensures { result ≡ wide? i }
 {
-    let x0 = i[0];
-    let x1 = i[1];
-    let y0 = i[2];
-    let y1 = i[3];
+    let [x0, x1, y0, y1] = i;
     let axes = apart(x0, y0) & apart(x1, y1);
     let diagonals = apart(x0 - x1, y0 - y1) & apart(x0 + x1, y0 + y1);
     axes | diagonals

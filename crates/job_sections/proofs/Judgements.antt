@@ -1,8 +1,10 @@
 -- What admission and opening say of what was read: the number of the sentence that holds; and their numbers are signed 16-bit numbers.
 use Rattle.whole.proofs.Laws.{◌≡◌, refl, sym, ap, ◌∙◌, subst, not, List, ℕ, zero, suc, ◌*◌, ◌≤◌, ◌<◌, dec_lt, arith, eqb, length, List·getD-eq-default, ℤ, pos, negsuc, at, Near, Within}
+use Rattle.refusals.specs.Types.{Ok, Err}
+use Rattle.refusals.proofs.Numbers.{numbered}
 use Rattle.digits.proofs.Laws.{StoredSystem, system_of, rows_of, numbers_near, rows_length}
 use Rattle.admission.proofs.Laws.{refusal_number, admission_of, Admissible, SystemCase, not_refused, admitted_says, admitted_only}
-use Rattle.opening.proofs.Laws.{opening_number, opening_of, OpeningCase, Opening, Opens, OutOfRange, NotAbove, opening_says, one_case}
+use Rattle.opening.proofs.Laws.{opening_number, opening_of, OpeningCase, Opening, Opens, opening_says, one_case}
 use Rattle.job_sections.specs.Layout.{SystemRules, MatrixRules}
 use Rattle.job_sections.specs.Sections.{Signed16, Sixteen, system, matrix}
 use Rattle.job_sections.proofs.Numbers.{pos_16, negsuc_16}
@@ -29,9 +31,8 @@ pub opened : {m : List ℤ} → matrix.Gives m 0 → OpeningCase m Opens
 opened {m} g = by g.answer g.numbered g.holds
   where
     by : (v : Opening) → opening_number v ≡ 0 → OpeningCase m v → OpeningCase m Opens
-    by Opens e h = h
-    by OutOfRange e h = absurd (omega arith)
-    by NotAbove e h = absurd (omega arith)
+    by (Ok u) e h = h
+    by (Err r) e h = absurd (omega (arith, numbered r, e))
 
 -- ---- numbers that keep the rules are signed 16-bit numbers
 

@@ -1,8 +1,10 @@
 -- The laws of numbers in bytes, both ways: what was written is read back, and what was read is written back. First the sign of one number, then many.
-use Rattle.whole.proofs.Laws.{◌≡◌, refl, sym, ap, ap₂, ◌∙◌, Bool, true, false, cond, List, [], ◌∷◌, ◌++◌, ℕ, zero, suc, ◌+◌, ◌*◌, ◌-◌, ◌≤◌, ◌<◌, mod-add-div, arith, lt-ltb, le-ltb, ltb-true, ltb, le→leb, leb→le, length, ℤ, pos, negsuc, ◌-ℤ◌, at}
+use Rattle.whole.proofs.Laws.{◌≡◌, refl, sym, ap, ap₂, ◌∙◌, Bool, true, false, cond, List, [], ◌∷◌, ◌++◌, ℕ, zero, suc, ◌+◌, ◌*◌, ◌-◌, ◌/◌, ◌≤◌, ◌<◌, mod-add-div, arith, lt-ltb, le-ltb, ltb-true, ltb, le→leb, leb→le, length, ℤ, pos, negsuc, ◌-ℤ◌, at}
 use Rattle.plane.proofs.Laws.{four, four_equal}
 use Rattle.sections.proofs.Laws.{two_bytes_lem}
 use borrow.Author.Tests.{ltb-false}
+use mir.Syntax.{w16}
+use mir.Val.{to_z, sel}
 use Rattle.job_sections.specs.Layout.{two_bytes, complement, numbers_bytes, Bytes}
 use Rattle.job_sections.specs.Sections.{Signed16, Sixteen, signed, number_at, numbers_in}
 
@@ -40,6 +42,15 @@ signed_complement (pos n) h = sym (signed_low n (omega (arith, leb→le n 32767 
 signed_complement (negsuc n) h =
     let k = leb→le n 32767 h.from.le in
     sym (signed_high (65535 - n) (omega arith)) ∙ less (65535 - n) (omega arith) ∙ ap negsuc (omega arith)
+
+-- and as a signed word reads it
+pub signed_word : (u : ℕ) → u < 65536 → to_z w16 u ≡ signed u
+unfolding signed
+signed_word u h = by (ltb u 32768) refl
+  where
+    by : (t : Bool) → ltb u 32768 ≡ t → sel t (pos u) (negsuc (65536 - suc u)) ≡ cond t (pos u) (pos u -ℤ pos 65536)
+    by true e = refl
+    by false e = ap negsuc (omega arith) ∙ sym (less u h)
 
 -- ---- many numbers
 
@@ -91,6 +102,14 @@ unfolding numbers_in
 numbers_length k [] e = omega arith
 numbers_length k (a ∷ []) e = absurd (omega arith)
 numbers_length k (a ∷ b ∷ bytes) e = omega (arith, numbers_length (k - 1) bytes (omega arith))
+
+-- and 0 behind them
+pub behind_numbers : (bytes : List ℕ) (i : ℕ) → length bytes / 2 ≤ i → pos 0 ≡ at (numbers_in bytes) i
+unfolding numbers_in
+behind_numbers [] i h = refl
+behind_numbers (a ∷ []) i h = refl
+behind_numbers (a ∷ b ∷ bytes) zero h = absurd (omega arith)
+behind_numbers (a ∷ b ∷ bytes) (suc i) h = behind_numbers bytes i (omega arith)
 
 -- four of them
 pub four_numbers : (bytes : List ℕ) → length bytes ≡ 8 → number_at bytes 0 ∷ number_at bytes 2 ∷ number_at bytes 4 ∷ number_at bytes 6 ∷ [] ≡ numbers_in bytes

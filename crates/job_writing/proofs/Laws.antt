@@ -5,5 +5,5 @@ pub use Rattle.job_writing.proofs.WrittenFile.{Says, judged_says, said_judged, p
 pub use Rattle.job_writing.proofs.WrittenFile.{judged_leaves, refused_leaves, short_leaves, file_leaves}
 -- the definitions
 pub use Rattle.job_writing.specs.Types.{NotWritten, Writing, Written}
-pub use Rattle.job_writing.specs.Writing.{Wrote, contents, wrote, writing_number, writing_section, written_by, written_bytes}
+pub use Rattle.job_writing.specs.Writing.{Wrote, contents, wrote, writing_number, writing_section, written_as, written_by, written_bytes}
 unfoldable pub use Rattle.job_writing.specs.Writing.{judged_of, write_of}

@@ -1,5 +1,7 @@
--- The type of src/, for one `use` line. (A crate passes on a type of `declared` only from under another name.)
-use Rattle.job_writing.specs.declared.Writing as EWriting
-use Rattle.job_writing.specs.declared.Writing.TheVariants as VWriting
-pub use EWriting.{Writing}
-pub use VWriting.{Written, NotWritten}
+-- What writing answers: how many bytes the file has, or the number and the section of the refusal. (In src/ a `Result`: `written_as` of Writing says
+-- what each is.)
+use Rattle.std.specs.Prelude.{ℕ}
+
+pub data Writing : Type 0 where
+  Written : ℕ → Writing
+  NotWritten : ℕ → ℕ → Writing

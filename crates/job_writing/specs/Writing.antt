@@ -3,10 +3,19 @@
 use Rattle.std.specs.Prelude.{cond, List, ℕ, ◌≤◌, ltb, length, ℤ}
 use Rattle.whole.specs.Written.{written}
 use Rattle.digits.specs.Types.{StoredSystem}
+use Rattle.refusals.specs.Types.{Result, Ok, Err}
+use Rattle.refusals.specs.Numbers.{number_of}
+use Rattle.job_sections.specs.Types.{FileRefusal}
 use Rattle.job_sections.specs.Layout.{Contents, layout_of}
 use Rattle.job_sections.specs.Sections.{Sixteen}
 use Rattle.job_sections.specs.Job.{written_job, parts_of, file_size}
 use Rattle.job_writing.specs.Types.{Writing, Written, NotWritten}
+
+-- ---- what src/ answers
+
+abbrev pub written_as : Result ℕ FileRefusal → Writing
+written_as (Ok n) = Written n
+written_as (Err f) = NotWritten (number_of f.refusal) f.section
 
 -- ---- an answer's numbers: of the refusal and its section, 0 and 0 where the file is written; and how many bytes are written
 

@@ -3,7 +3,7 @@ pub use Rattle.jobs.proofs.ReadsExactly.{reads_exactly, refuses_exactly, number_
 pub use Rattle.jobs.proofs.NeverRefused.{Runs, read_never_refused}
 pub use Rattle.jobs.proofs.OneAnswer.{not_both, one_refusal}
 -- the definitions
-pub use Rattle.jobs.specs.Reading.{refused, verdict_number, verdict_section}
+pub use Rattle.jobs.specs.Reading.{read_as, refused, verdict_number, verdict_section}
 unfoldable pub use Rattle.jobs.specs.Reading.{read_of, reading_of}
 pub use Rattle.jobs.specs.Types.{Job, Reading, Reads, Refused, Verdict}
 pub use Rattle.jobs.specs.Reads.{ReadsAs}

@@ -3,6 +3,9 @@
 use Rattle.std.specs.Prelude.{List, ℕ, length, replicate, pos}
 use Rattle.digits.specs.Types.{StoredSystem}
 use Rattle.opening.specs.Opening.{no_matrix}
+use Rattle.refusals.specs.Types.{Result, Ok, Err}
+use Rattle.refusals.specs.Numbers.{number_of}
+use Rattle.job_sections.specs.Types.{FileRefusal}
 use Rattle.jobs.specs.Types.{Verdict, Reads, Refused, Job, Reading}
 use Rattle.job_sections.specs.Layout.{Contents}
 pub use Rattle.job_sections.specs.Job.{Parts, job, contents_of, parts_of, bytes_of, word_start}
@@ -36,6 +39,12 @@ no_job = record { input = no_system; output = no_system; matrix = no_matrix; wor
 
 abbrev pub refused : ℕ → ℕ → Reading
 refused number section = record { verdict = Refused number section; job = no_job }
+
+-- ---- what src/ answers
+
+abbrev pub read_as : Result Job FileRefusal → Reading
+read_as (Ok j) = record { verdict = Reads; job = j }
+read_as (Err f) = refused (number_of f.refusal) f.section
 
 -- ---- a file is read section by section
 

@@ -1,11 +1,16 @@
--- The types of src/, for one `use` line. (A crate passes on a type of `declared` only from under another name.)
-use Rattle.jobs.specs.declared.Verdict as EVerdict
-use Rattle.jobs.specs.declared.Verdict.TheVariants as VVerdict
+-- The types of src/, for one `use` line, and what `read` answers. (A crate passes on a type of `declared` only from under another name.)
+use Rattle.std.specs.Prelude.{ℕ}
 use Rattle.jobs.specs.declared.Word as SWord
 use Rattle.jobs.specs.declared.Job as SJob
-use Rattle.jobs.specs.declared.Reading as SReading
-pub use EVerdict.{Verdict}
-pub use VVerdict.{Reads, Refused}
 pub use SWord.{Word}
 pub use SJob.{Job}
-pub use SReading.{Reading}
+
+-- the file reads, or it is refused by a number in a section, 0 to 3
+pub data Verdict : Type 0 where
+  Reads : Verdict
+  Refused : ℕ → ℕ → Verdict
+
+-- what reading answers. (In src/ a `Result`: `read_as` of Reading says what each is.) A refused file hands back no job: all of it is 0.
+pub record Reading : Type 0 where
+  pub verdict : Verdict
+  pub job : Job

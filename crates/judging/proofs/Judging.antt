@@ -2,12 +2,20 @@
 -- nothing is refused exactly if both systems are admitted and the state keeps the rules; a refusal has one of those numbers.
 -- The argument goes through the three judgements in their order: the first number that is not 0 decides.
 use Rattle.whole.proofs.Laws.{◌≡◌, refl, sym, ap, ◌∙◌, passed, decided, Bool, true, false, cond, ◌&&◌, ◌⊎◌, inl, inr, ◌↔◌, ℕ, zero, suc, arith, eqb-true, eq-eqb, pos, lt_z, gcd4, unless_refused, lt_true, true_lt, both_true, true_both, within?, lowest?, within_says, says_within}
+use Rattle.std.specs.Result.{IsErrAnd}
+use Rattle.std.proofs.lemmas.Result.{err_from_is_err_and}
+use Rattle.refusals.specs.Types.{Refusal, Result, Err}
 use Rattle.plane.proofs.Laws.{determinant_of}
 use Rattle.digits.proofs.Laws.{System}
 use Rattle.admission.proofs.Laws.{Admitted, refusal_number, admission_of, SystemNumber, number_0, admission_number, admitted_few, admitted_digits}
 use Rattle.states.proofs.Laws.{State, StateRules, held_digit?, held_says, says_held}
 use Rattle.steps.proofs.Laws.{Setting, Usable, Ready}
 use Rattle.judging.specs.Refusal.{state?, refusal_by, refusal_of, RefusalNumber, Accepted}
+
+-- ---- what `?` passes on
+
+pub passed_on : {A : Type 0} {e : Refusal} (r : Result A Refusal) → IsErrAnd r (λ y. y ≡ e) → r ≡ Err e
+passed_on r h = let p = err_from_is_err_and r h in p.1 ∙ ap Err p.2
 
 -- ---- the test of refusal 12
 
@@ -98,8 +106,8 @@ state_number_lem false = inr (inr refl)
 pub refusal_number_by : (y : Setting) (kept : Bool) → (refusal_by y kept ≡ 0) ⊎ RefusalNumber (refusal_by y kept)
 unfolding refusal_by
 refusal_number_by y kept =
-    either_number (refusal_number (admission_of y.input)) _ (admission_number (admission_of y.input))
-    (either_number (refusal_number (admission_of y.output)) _ (admission_number (admission_of y.output)) (state_number_lem kept))
+    either_number (refusal_number (admission_of y.input)) _ (admission_number y.input)
+    (either_number (refusal_number (admission_of y.output)) _ (admission_number y.output) (state_number_lem kept))
 
 pub refusal_number_lem : (y : Setting) (s : State) → (refusal_of y s ≡ 0) ⊎ RefusalNumber (refusal_of y s)
 unfolding refusal_of

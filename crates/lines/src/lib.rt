@@ -23,13 +23,10 @@ pub fn put_answer(out: &mut [u8], answer: Answer, output: &[u8]) -> usize
     requires { (40000 ≤ length out.old) × (length output.now ≤ 8192) × (answer.written.0 ≤ length output.now) }
     ensures { Wrote out.old 0 (answer_text answer output.now) 40000 out.new result }
 {
-    let n = answer.written.0;
-    let state = answer.state;
-    let stop = answer.stop;
-    let end = states::end_number(stop);
-    let a = put_counts(out, 0, end, answer.taken.0, n);
-    let b = state_line::put_state(out, a, state);
-    text::put_line(out, b, &output[..n])
+    let end = states::end_number(answer.stop);
+    let a = put_counts(out, 0, end, answer.taken.0, answer.written.0);
+    let b = state_line::put_state(out, a, answer.state);
+    text::put_line(out, b, &output[..answer.written.0])
 }
 
 // The one line of a refused file.

@@ -13,11 +13,20 @@ use Rattle.meaning.specs.Names.{named_from, product_of, determinants_of, times_a
 use Rattle.meaning.specs.Session.{ProductHolds, ScaleNamed, NamedHolds, NumbersHold, ToCome}
 use Rattle.meaning.proofs.Products.{product_names}
 use Rattle.meaning.proofs.OneStep.{job_scale, scale_same}
-use Rattle.meaning.proofs.Moments.{Meant, MeantBy}
+use Rattle.meaning.proofs.Moments.{MeantBy}
 
 -- what holds of the absorbed digits holds of any list that is theirs
 pub of_the : {bytes : List ℕ} {h : Held} {Claim : List ℕ → Type 0} → OfTheAbsorbed bytes h Claim → (absorbed : List ℕ) → absorbed ++ held_digits h ≡ bytes → Claim absorbed
 of_the {Claim = Claim} o absorbed e = subst Claim (sym (o.no_other absorbed e)) o.holds
+
+-- and there is no other list
+pub the_absorbed : (absorbed : List ℕ) {bytes : List ℕ} (h : Held) {Claim : List ℕ → Type 0} → absorbed ++ held_digits h ≡ bytes → Claim absorbed → OfTheAbsorbed bytes h Claim
+the_absorbed absorbed h e c = record {
+  absorbed = absorbed;
+  with_the_held = e;
+  no_other = λ other f. append_cancel_right other absorbed (held_digits h) (f ∙ sym e);
+  holds = c;
+}
 
 -- a whole number above 0 is a natural one
 pub natural : {z : ℤ} → pos 0 <ℤ z → (n : ℕ) × (0 < n) × (pos n ≡ z)
@@ -36,12 +45,7 @@ product_same a b given absorbed x c u t =
 
 module _ {a b : System} {o : State} (done : Deed) {s : State} (h : MeantBy (setting a b) o done s) where
   pub meant_absorbed : {Claim : List ℕ → Type 0} → Claim h.absorbed → OfTheAbsorbed (held_digits o.held ++ done.x) s.held Claim
-  meant_absorbed c = record {
-    absorbed = h.absorbed;
-    with_the_held = h.with_the_held;
-    no_other = λ other e. append_cancel_right other h.absorbed (held_digits s.held) (e ∙ sym h.with_the_held);
-    holds = c;
-  }
+  meant_absorbed = the_absorbed h.absorbed s.held h.with_the_held
 
   -- both sides scaled by numbers above 0: those of `Meant`, and for another matrix c in the place of o's what makes it equal
   scaled : (n : ℕ) (c : List ℤ) → 0 < n →

@@ -12,7 +12,7 @@ use Rattle.inclusion.proofs.Laws.{included_says, says_included, closed_included}
 use Rattle.digits.proofs.Laws.{transformation, interval}
 use Rattle.admission.proofs.Laws.{Digits}
 use Rattle.runs.proofs.Laws.{Deed, nothing, Going, Plan, Each, took_x, gave, and_then, follow_each, each_test}
-use Rattle.states.proofs.Laws.{Held, Nothing, Digit, State, Stop, NotADigit, HeldDigit, opened, loaded, given, absorbed}
+use Rattle.states.proofs.Laws.{Held, None, Some, State, Stop, NotADigit, HeldDigit, opened, loaded, given, absorbed}
 use Rattle.steps.proofs.Laws.{Setting, each_cancelled, chosen, given_matrix, absorbed_matrix, plan_by, plan, chosen_below, chosen_fits}
 use Rattle.opening.proofs.Laws.{Opens, Start, open_of, opens, hands_out}
 use native.Mathlib.Nat as N
@@ -60,16 +60,20 @@ here_means {y} {s} sound = record {
   intervals = λ t each held. tt;
 }
 
+-- "determinant above 0", of a matrix that opens
+pub job_above : {m : List ℤ} → (open_of m).opening ≡ Opens → DetAbove m
+job_above {m} e = record { above = ((opens m Opens).0 e).1 }
+
 -- the opened state
 pub opened_sound : (y : Setting) (m : List ℤ) → (open_of m).opening ≡ Opens → Sound y (open_of m).state
 unfolding cancel_of
 opened_sound y m e = subst (λ (r : Start). Sound y r.state) (sym (hands_out m Opens e))
-    (record { above = cancel_det_above (record { above = ((opens m Opens).0 e).1 }); held_digit = tt; four = refl })
+    (record { above = cancel_det_above (job_above e); held_digit = tt; four = refl })
 
 -- ---- each kind of step
 
 module _ {y : Setting} {o : State} (inputs : Digits y.input) (outputs : Digits y.output) {k : ℕ} {taken out : List ℕ} {s : State} (h : Meant y o k taken out s) where
-  loads : s.held ≡ Nothing → (a : ℕ) → a < y.input.count → Meant y o k (taken ++ a ∷ []) out (loaded s a)
+  loads : s.held ≡ None → (a : ℕ) → a < y.input.count → Meant y o k (taken ++ a ∷ []) out (loaded s a)
   loads free a below = record {
     absorbed = h.absorbed;
     with_the_held = ap (λ (l : List ℕ). l ++ a ∷ []) (sym (append-nil h.absorbed) ∙ ap (λ (x : Held). h.absorbed ++ held_digits x) (sym free) ∙ h.with_the_held) ∙
@@ -81,7 +85,7 @@ module _ {y : Setting} {o : State} (inputs : Digits y.input) (outputs : Digits y
     intervals = λ t each held. h.intervals t each (subst (λ (x : Held). HeldInItsInterval y.input x t) (sym free) tt);
   }
 
-  module _ (a : ℕ) (holds : s.held ≡ Digit a) where
+  module _ (a : ℕ) (holds : s.held ≡ Some a) where
     held_below : a < y.input.count
     held_below = subst (HeldDigit y.input.count) holds h.sound.held_digit
 
@@ -172,7 +176,7 @@ moment_means {y} {m} inputs outputs {done} {s} moment =
 -- intervals have to be intervals.
 
 module _ {y : Setting} (inputs : Digits y.input) (outputs : Digits y.output) {s : State} (sound : Sound y s) where
-  choice_is : (a : ℕ) → s.held ≡ Digit a → (o : Option ℕ) → chosen y s a ≡ o → Chooses y s a o
+  choice_is : (a : ℕ) → s.held ≡ Some a → (o : Option ℕ) → chosen y s a ≡ o → Chooses y s a o
   choice_is a holds none e = tt
   choice_is a holds (some b) e =
       let below = chosen_below y s a b e in
@@ -183,5 +187,5 @@ module _ {y : Setting} (inputs : Digits y.input) (outputs : Digits y.output) {s 
   plan_is = by s.held refl
     where
       by : (x : Held) → s.held ≡ x → FreeLine y s (plan_by y s x)
-      by Nothing e = loading e
-      by (Digit a) e = holding a e (chosen y s a) (choice_is a e (chosen y s a) refl)
+      by None e = loading e
+      by (Some a) e = holding a e (chosen y s a) (choice_is a e (chosen y s a) refl)

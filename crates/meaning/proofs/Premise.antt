@@ -5,10 +5,10 @@
 -- Last, document 01's own job (R to R, matrix 2 1 1 2, word 0 0 1; output 0 1 1, state 2 1 1 2): with the rest 1/1 the input names 2/5, of which the matrix makes
 -- 9/12, and the output names 9/12, each number on the way in its digit's interval.
 use Rattle.whole.proofs.Laws.{◌≡◌, refl, List, [], ◌∷◌, ℕ, zero, suc, arith, T, ℤ, pos, up<}
-use Rattle.plane.proofs.Laws.{Pair, SamePoint, apply, Closed, scale_pair, above_not_0, same_refl, same_sym, same_trans, same_scale, closed_same}
+use Rattle.plane.proofs.Laws.{Pair, Point, SamePoint, apply, Closed, scale_pair, above_not_0, same_refl, same_sym, same_trans, same_scale, closed_same}
 use Rattle.inclusion.proofs.Laws.{closed?}
 use Rattle.digits.proofs.Laws.{System, transformation_by, interval_by, minus, rows_r, rows_b, rows_d, stored, system_of}
-use Rattle.states.proofs.Laws.{Digit}
+use Rattle.states.proofs.Laws.{Some}
 use Rattle.meaning.specs.Names.{named_from, EachInItsInterval, HeldInItsInterval}
 use Rattle.meaning.proofs.Products.{named_same}
 
@@ -16,6 +16,9 @@ use Rattle.meaning.proofs.Products.{named_same}
 infix 70 ◌over◌
 abbrev pub ◌over◌ : ℤ → ℤ → Pair
 x over y = record { z0 = x; z1 = y }
+
+pub fraction : {n : ℤ} {d : ℕ} → Point (n over pos (suc d))
+fraction = record { not_both = λ e f. above_not_0 (up< (omega arith)) f }
 
 abbrev pub system_r : System
 system_r = system_of (stored rows_r)
@@ -49,7 +52,7 @@ pub holds_at_infinity : EachInItsInterval system_r (0 ∷ 0 ∷ 1 ∷ []) (pos 1
 unfolding EachInItsInterval named_from apply transformation_by interval_by stored closed?
 holds_at_infinity = (computed tt, (computed tt, (computed tt, tt)))
 
-pub held_holds : HeldInItsInterval system_r (Digit 1) (pos 2 over pos 1)
+pub held_holds : HeldInItsInterval system_r (Some 1) (pos 2 over pos 1)
 unfolding transformation_by interval_by stored closed?
 held_holds = computed tt
 
@@ -77,7 +80,7 @@ pub fails_at_minus_1 : EachInItsInterval system_r (0 ∷ 0 ∷ 1 ∷ []) (minus 
 unfolding EachInItsInterval named_from apply transformation_by interval_by stored closed?
 fails_at_minus_1 e = refused (λ t. t) e.1.1.0
 
-pub held_fails : HeldInItsInterval system_r (Digit 1) (pos 1 over pos 2) → ⊥
+pub held_fails : HeldInItsInterval system_r (Some 1) (pos 1 over pos 2) → ⊥
 unfolding transformation_by interval_by stored closed?
 held_fails c = refused (λ t. t) c
 

@@ -4,19 +4,20 @@
 -- refused run changes nothing; so every session stands at a moment (`session_moment`), of which the claims are proved (Claims).
 -- Last, the bridge to the code: `called_by_contract` makes a session's next call of any answer, output and list that equal those of `run_of`, which is what `run`'s contract
 -- says of them.
-use Rattle.whole.proofs.Laws.{◌≡◌, refl, sym, ◌∙◌, ap, subst, List, [], ◌∷◌, ℕ, zero, suc, ◌≤◌, arith, length, take, drop, take-append_seam, ℤ}
-use Rattle.plane.proofs.Laws.{DetAbove, cancel_of}
+use Rattle.whole.proofs.Laws.{◌≡◌, refl, sym, ◌∙◌, ap, subst, List, ℕ, zero, suc, arith, length, take, drop, take-append_seam, ℤ}
+use Rattle.plane.proofs.Laws.{cancel_of}
 use Rattle.digits.proofs.Laws.{System}
 use Rattle.admission.proofs.Laws.{Admissible, Digits}
 use Rattle.runs.proofs.Laws.{Supply, Deed, nothing, and_then, spend, Outcome, goes, halts, most_steps, Course, after, run_by, run, within, and_nothing, and_then_lem, front_written, either}
 use Rattle.states.proofs.Laws.{State, Stop, Refused, opened}
 use Rattle.steps.proofs.Laws.{Setting, setting, plain, one_word}
-use Rattle.opening.proofs.Laws.{Opens, open_of, opens}
+use Rattle.opening.proofs.Laws.{Opens, open_of}
 use Rattle.judging.proofs.Laws.{refusal_of}
 use Rattle.unary.proofs.Laws.{Ran, course_of, run_of, course_in_range}
+use Rattle.std.proofs.lemmas.List.{nil_from_length}
 use Rattle.meaning.specs.Session.{Calls, none, called, did_by, Session, ProductHolds, ScaleNamed, NamedHolds, NumbersHold, During}
 use Rattle.meaning.specs.Moments.{Onward, here, stepped, Moment}
-use Rattle.meaning.proofs.Moments.{Sound, MeantBy, onward_means, moment_means, opened_sound, plan_is}
+use Rattle.meaning.proofs.Moments.{Sound, MeantBy, onward_means, moment_means, job_above, opened_sound, plan_is}
 use Rattle.meaning.proofs.Claims.{meant_product, meant_scale, meant_named, meant_numbers}
 
 -- ---- a run goes onward
@@ -58,14 +59,7 @@ module _ {a b : System} (admitted : Admissible a × Admissible b) where
       (λ e. steps_onward admitted.0.digits admitted.1.digits sound (suc (most_steps (plain y) s r)) done s r before)
       (λ n e. stays admitted.0.digits admitted.1.digits sound before)
 
-job_above : {m : List ℤ} → (open_of m).opening ≡ Opens → DetAbove m
-job_above {m} e = record { above = ((opens m Opens).0 e).1 }
-
 -- ---- what a call did
-
-no_bytes : (l : List ℕ) → length l ≤ 0 → l ≡ []
-no_bytes [] h = refl
-no_bytes (b ∷ l) h = absurd (omega arith)
 
 -- it is what its answer and the lent lists tell
 did_is : (a b : System) (s : State) (input output divisors : List ℕ) → (course_of a b s input (length output) (length divisors)).did ≡ did_by input (run_of a b s input output divisors)
@@ -75,7 +69,7 @@ did_is a b s input output divisors =
     let pays = (course_in_range a b s input (length output) (length divisors)).pays in
     sym (λ i. record {
       x = (ap (take (length d.x)) (sym pays.x) ∙ take-append_seam d.x (drop (length d.x) input)) i;
-      y = sym (no_bytes d.y (within pays).1) i;
+      y = sym (nil_from_length d.y (omega (arith, (within pays).1))) i;
       digits = front_written d.digits output i;
       divisors = front_written d.divisors divisors i;
     })

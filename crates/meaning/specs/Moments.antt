@@ -11,7 +11,7 @@ use Rattle.digits.specs.System.{interval}
 use Rattle.runs.specs.Supply.{Supply, Deed, nothing, and_then}
 use Rattle.runs.specs.Machine.{goes}
 use Rattle.runs.specs.Plan.{Plan, follow}
-use Rattle.states.specs.Types.{Nothing, Digit, State, Stop}
+use Rattle.states.specs.Types.{None, Some, State, Stop}
 use Rattle.steps.specs.Step.{Setting, load_plan, held_plan}
 use Rattle.opening.specs.Types.{Opens}
 use Rattle.opening.specs.Opening.{open_of}
@@ -28,8 +28,8 @@ Chooses y s h (some b) = Fits y s h b
 
 -- the plans of a step: lines 1 to 3 where nothing is held, and lines 4 and 5 where h is, with any choice
 pub data FreeLine (y : Setting) (s : State) : Plan State Stop → Type 0 where
-  loading : s.held ≡ Nothing → FreeLine y s (load_plan y.input.count s)
-  holding : (h : ℕ) → s.held ≡ Digit h → (o : Option ℕ) → Chooses y s h o → FreeLine y s (held_plan y s h o)
+  loading : s.held ≡ None → FreeLine y s (load_plan y.input.count s)
+  holding : (h : ℕ) → s.held ≡ Some h → (o : Option ℕ) → Chooses y s h o → FreeLine y s (held_plan y s h o)
 
 -- `Onward y s done t`: from the state s, by steps that did this in all, to the state t. A digit that is given out stands behind those given out before it,
 -- and a divisor that is listed behind those listed before it.

@@ -3,7 +3,7 @@ use Rattle.std.specs.Prelude.{◌≡◌, List, [], ◌∷◌, ◌++◌, ℕ, ◌
 use Rattle.plane.specs.Plane.{Pair, apply, determinant_of, multiply_of, Closed}
 use Rattle.plane.specs.Scale.{scale_of, identity_of}
 use Rattle.digits.specs.System.{System, transformation, interval}
-use Rattle.states.specs.Types.{Held, Nothing, Digit}
+use Rattle.states.specs.Types.{Held, None, Some}
 
 -- the number named from the first of some digits on, where t is named by what follows them
 unfoldable pub named_from : System → List ℕ → Pair → Pair
@@ -32,13 +32,13 @@ EachInItsInterval y (a ∷ digits) t = Closed (interval y a) (named_from y (a �
 
 -- the same of the held digit, which is the first of what is not yet absorbed: t is named from it on
 abbrev pub HeldInItsInterval : System → Held → Pair → Type 0
-HeldInItsInterval y Nothing t = Unit {0}
-HeldInItsInterval y (Digit a) t = Closed (interval y a) t
+HeldInItsInterval y None t = Unit {0}
+HeldInItsInterval y (Some a) t = Closed (interval y a) t
 
 -- "Absorbed, not taken: the held digit is not yet absorbed."
 abbrev pub held_digits : Held → List ℕ
-held_digits Nothing = []
-held_digits (Digit a) = a ∷ []
+held_digits None = []
+held_digits (Some a) = a ∷ []
 
 -- The absorbed digits are the bytes that went in without the held one, which went in last. There is exactly one such list, and the claim holds of it.
 pub record OfTheAbsorbed (bytes : List ℕ) (h : Held) (Claim : List ℕ → Type 0) : Type 0 where

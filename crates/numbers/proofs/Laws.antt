@@ -3,7 +3,7 @@
 -- four lengths that passed their test
 pub use Rattle.numbers.proofs.Lengths.{four_lengths}
 -- numbers that are written unless something is refused
-pub use Rattle.numbers.proofs.Written.{written_0}
+pub use Rattle.numbers.proofs.Written.{written_0, refused_by}
 -- a list of known length, place by place
 pub use Rattle.numbers.proofs.Lists.{known}
 -- what is written is read back as what it was written for

@@ -4,9 +4,9 @@ use Rattle.std.specs.Int.Signed.{lt_z}
 use Rattle.whole.specs.Range.{at}
 use Rattle.plane.specs.Scale.{entries}
 use Rattle.digits.specs.Types.{StoredSystem}
-use Rattle.states.specs.Types.{Held, Nothing, Digit, State, Stop}
+use Rattle.states.specs.Types.{Held, None, Some, State, Stop}
 use Rattle.states.specs.State.{refused?}
--- "lent and never copied": what is passed is what would stand in memory
+-- what is lent, as it would stand in memory
 pub use Rattle.digits.specs.Orders.{lent_system}
 
 -- the number that refuses a slice of the wrong length: a number that no rule of document 01 has
@@ -22,15 +22,15 @@ columns? l = eqb (length l) 128
 -- ---- a state: the four entries of the matrix, then the held digit, or −1 for none
 
 abbrev pub held_number : Held → ℤ
-held_number Nothing = negsuc 0
-held_number (Digit d) = pos d
+held_number None = negsuc 0
+held_number (Some d) = pos d
 
 unfoldable pub state_numbers : State → List ℤ
 state_numbers s = entries s.matrix ++ held_number s.held ∷ []
 
 -- what a fifth number stands for: −1 for nothing, 0 to 255 for that digit. Any other, below −1 or above 255, is a digit that no system has, as 255 is.
 unfoldable pub held_from : ℤ → Held
-held_from z = cond (lt_z z (negsuc 0)) (Digit 255) (cond (lt_z z (pos 0)) Nothing (cond (ltb 255 (nat_abs z)) (Digit 255) (Digit (nat_abs z))))
+held_from z = cond (lt_z z (negsuc 0)) (Some 255) (cond (lt_z z (pos 0)) None (cond (ltb 255 (nat_abs z)) (Some 255) (Some (nat_abs z))))
 
 unfoldable pub state_from : List ℤ → State
 state_from l = record { matrix = entries l; held = held_from (at l 4) }

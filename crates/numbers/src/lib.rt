@@ -2,30 +2,36 @@
 // A system is its count of digits and its 128 numbers, in columns; a state is five numbers, the matrix and the held digit or −1.
 #![tactic(auto)]
 
-ghost use Rattle.std.specs.Prelude.{◌≡◌, ◌++◌, ◌≤◌, length, drop};
+ghost use Rattle.std.specs.Prelude.{◌≡◌, ◌++◌, ◌≤◌, length, drop, SomeIff};
 ghost use Rattle.plane.specs.Scale.{entries};
-ghost use Rattle.digits.specs.Orders.{Columns};
+ghost use Rattle.digits.specs.Orders.{Columns, lent_system};
 ghost use Rattle.numbers.specs.Numbers.{held_number, state_numbers, held_from, state_from, wrote, handed_out};
 
 use digits::System;
-use states::{Held, State};
+use states::State;
 
 // The number that refuses a slice of the wrong length.
 pub const WRONG_LENGTH: u32 = 40;
 
 // ---- a system
 
+// The system that is lent as its count of digits and its columns, or none where these are not 128 numbers.
+pub fn system_from(digits: usize, columns: &[i16]) -> Option<System>
+    ensures { SomeIff result (length columns.now ≡ 128) (lent_system digits columns.now) }
+{
+    let columns = <[i16; 128]>::try_from(columns).ok()?;
+    Some(System {
+        count: digits,
+        columns,
+    })
+}
+
 // The numbers of a system.
 pub fn put_columns(s: System, to: &mut [i16])
     requires { Columns to.old }
     ensures { to.new ≡ s.columns }
 {
-    let columns = s.columns;
-    let mut p = 0;
-    while p < 128 {
-        to[p] = columns[p];
-        p += 1;
-    }
+    to.copy_from_slice(&s.columns);
 }
 
 // The numbers of a system, into a slice of exactly as many.
@@ -50,20 +56,13 @@ pub fn matrix_from(numbers: &[i64]) -> [i64; 4]
 }
 
 // What the fifth number of a state stands for.
-pub fn held_from(z: i64) -> Held
+pub fn held_from(z: i64) -> Option<u8>
     ensures { result ≡ held_from z }
 {
-    if z < -1 {
-        return Held::Digit(255);
+    if z == -1 {
+        return None;
     }
-    if z < 0 {
-        return Held::Nothing;
-    }
-    let d = whole::magnitude(z);
-    if 255 < d {
-        return Held::Digit(255);
-    }
-    Held::Digit(d as u8)
+    Some(u8::try_from(z).unwrap_or(255))
 }
 
 // The state that five numbers stand for.
@@ -71,9 +70,10 @@ pub fn state_from(five: &[i64]) -> State
     requires { length five.now ≡ 5 }
     ensures { result ≡ state_from five.now }
 {
-    let matrix = matrix_from(five);
-    let held = held_from(five[4]);
-    State { matrix, held }
+    State {
+        matrix: matrix_from(five),
+        held: held_from(five[4]),
+    }
 }
 
 // The four entries of a matrix, over the first four numbers of a slice.
@@ -81,21 +81,14 @@ pub fn put_matrix(m: [i64; 4], to: &mut [i64])
     requires { 4 ≤ length to.old }
     ensures { to.new ≡ entries m ++ drop 4 to.old }
 {
-    let mut i = 0;
-    while i < 4 {
-        to[i] = m[i];
-        i += 1;
-    }
+    to[..4].copy_from_slice(&m);
 }
 
 // The number of a held digit, or −1.
-pub fn held_number(h: Held) -> i64
+pub fn held_number(h: Option<u8>) -> i64
     ensures { result ≡ held_number h }
 {
-    match h {
-        Held::Nothing => -1,
-        Held::Digit(d) => d as i64,
-    }
+    h.map_or(-1, i64::from)
 }
 
 // A state written as five numbers.
@@ -103,8 +96,6 @@ pub fn put_state(s: State, five: &mut [i64])
     requires { length five.old ≡ 5 }
     ensures { five.new ≡ state_numbers s }
 {
-    let m = s.matrix;
-    let h = s.held;
-    put_matrix(m, five);
-    five[4] = held_number(h);
+    put_matrix(s.matrix, five);
+    five[4] = held_number(s.held);
 }

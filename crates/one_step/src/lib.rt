@@ -6,75 +6,66 @@ ghost use Rattle.whole.specs.Range.{Within};
 ghost use Rattle.plane.specs.Plane.{determinant_of, image_of};
 ghost use Rattle.digits.specs.System.{SameDigits, interval};
 ghost use Rattle.digits.specs.BuiltIn.{table_of, rows_r, rows_b};
-ghost use Rattle.digits.specs.Orders.{lent, Columns};
+ghost use Rattle.digits.specs.Orders.{system_of};
 ghost use Rattle.fitting.specs.FirstFit.{fitting_of, fitting, fits};
 ghost use Rattle.steps.specs.Step.{setting, one_word, chosen, held_plan, emit_plan, plan};
 ghost use Rattle.steps.specs.Made.{Follows, WorksWith, WorksWhere, OfR, HeldRecognised, Recognised, Usable, Ready};
 
-use fitting::Fitting;
-use states::{Held, State};
+use digits::System;
+use states::State;
 use steps::Move;
 
 // Lines 4 and 5, by what was found to fit: that digit is given out, and where none does the held digit h is absorbed.
+#[inline(always)]
 fn emitted(
     r: bool,
-    input_columns: &[i16],
-    output_columns: &[i16],
+    inputs: &System,
+    outputs: &System,
     s: State,
     h: u8,
-    fit: Fitting,
+    fit: Option<u8>,
     o: usize,
     room: usize,
     p: usize,
     list: usize,
 ) -> Move
-    requires { (WorksWith input_columns.now s h) × (OfR r input_columns.now h) × (WorksWhere r output_columns.now s (fits fit)) }
-    ensures { (bytes : List ℕ) → Follows (held_plan (setting (lent 0 input_columns.now) (lent 0 output_columns.now)) s h (fits fit)) s (one_word bytes (room - o) (list - p)) result }
+    requires { (WorksWith (system_of inputs.now) s h) × (OfR r (system_of inputs.now) h) × (WorksWhere r (system_of outputs.now) s (fits fit)) }
+    ensures { (bytes : List ℕ) → Follows (held_plan (setting (system_of inputs.now) (system_of outputs.now)) s h (fits fit)) s (one_word bytes (room - o) (list - p)) result }
 {
     match fit {
-        Fitting::At(b) => steps::give(r, output_columns, s, b, o, room, p, list),
-        Fitting::Missing => steps::absorb(r, input_columns, s, h, p, list),
+        Some(b) => steps::give(r, outputs, s, b, o, room, p, list),
+        None => steps::absorb(r, inputs, s, h, p, list),
     }
 }
 
 // The search of line 4 where both systems are R.
-fn fitting_of_r(s: State, h: u8) -> Fitting
+fn fitting_of_r(s: State, h: u8) -> Option<u8>
     requires { (Within 1000000000 s.matrix) × (pos 0 <ℤ determinant_of s.matrix) × (h < 4) }
     ensures { result ≡ fitting (fitting_of (table_of rows_r) (image_of s.matrix (interval (table_of rows_r) h))) }
 {
-    let x = s.matrix;
-    built_in_digits::fitting_r(built_in_digits::image_r(x, h))
+    built_in_digits::fitting_r(built_in_digits::image_r(s.matrix, h))
 }
 
 // The search of line 4 in any other system, which is B where b is true.
-fn fitting_of(
-    b: bool,
-    input_columns: &[i16],
-    output_count: usize,
-    output_columns: &[i16],
-    s: State,
-    h: u8,
-) -> Fitting
-    requires { (WorksWith input_columns.now s h) × (Columns output_columns.now) × (Usable (lent output_count output_columns.now)) × (b ≡ true → SameDigits (lent output_count output_columns.now) (table_of rows_b)) }
-    ensures { result ≡ fitting (chosen (setting (lent 0 input_columns.now) (lent output_count output_columns.now)) s h) }
+fn fitting_of(b: bool, inputs: &System, outputs: &System, s: State, h: u8) -> Option<u8>
+    requires { (WorksWith (system_of inputs.now) s h) × (Usable (system_of outputs.now)) × (b ≡ true → SameDigits (system_of outputs.now) (table_of rows_b)) }
+    ensures { result ≡ fitting (chosen (setting (system_of inputs.now) (system_of outputs.now)) s h) }
 {
-    let w = digits::interval(input_columns, h as usize);
-    let x = s.matrix;
-    let image = products::image(x, w);
+    let w = inputs.interval(h as usize);
+    let image = products::image(s.matrix, w);
     if b {
         return built_in_digits::fitting_b(image);
     }
-    fitting::fitting_digit(output_count, output_columns, image)
+    fitting::fitting_digit(outputs, image)
 }
 
-// Lines 4 and 5: the digit h is held. The input system's count does not matter here. `emitted` is called in two places, with R or not as a constant: so the compiler makes two
+// Lines 4 and 5: the digit h is held. `emitted` is called in two places, with R or not as a constant: so the compiler makes two
 // ways of it, and in R's nothing is read (docs/DECISIONS.md).
 fn emit(
     r: bool,
     b: bool,
-    input_columns: &[i16],
-    output_count: usize,
-    output_columns: &[i16],
+    inputs: &System,
+    outputs: &System,
     s: State,
     h: u8,
     o: usize,
@@ -82,37 +73,15 @@ fn emit(
     p: usize,
     list: usize,
 ) -> Move
-    requires { (WorksWith input_columns.now s h) × (Columns output_columns.now) × (Usable (lent output_count output_columns.now)) × (HeldRecognised r b input_columns.now h (lent output_count output_columns.now)) }
-    ensures { (bytes : List ℕ) → Follows (emit_plan (setting (lent 0 input_columns.now) (lent output_count output_columns.now)) s h) s (one_word bytes (room - o) (list - p)) result }
+    requires { (WorksWith (system_of inputs.now) s h) × (Usable (system_of outputs.now)) × (HeldRecognised r b (system_of inputs.now) h (system_of outputs.now)) }
+    ensures { (bytes : List ℕ) → Follows (emit_plan (setting (system_of inputs.now) (system_of outputs.now)) s h) s (one_word bytes (room - o) (list - p)) result }
 {
     if r {
         let fit = fitting_of_r(s, h);
-        return emitted(
-            true,
-            input_columns,
-            output_columns,
-            s,
-            h,
-            fit,
-            o,
-            room,
-            p,
-            list,
-        );
+        return emitted(true, inputs, outputs, s, h, fit, o, room, p, list);
     }
-    let fit = fitting_of(b, input_columns, output_count, output_columns, s, h);
-    emitted(
-        false,
-        input_columns,
-        output_columns,
-        s,
-        h,
-        fit,
-        o,
-        room,
-        p,
-        list,
-    )
+    let fit = fitting_of(b, inputs, outputs, s, h);
+    emitted(false, inputs, outputs, s, h, fit, o, room, p, list)
 }
 
 // One step, first line that applies, behind i bytes taken, o digits written and p divisors listed, where the output has room for so many in all, and the list too. The next
@@ -120,10 +89,8 @@ fn emit(
 pub fn step(
     r: bool,
     b: bool,
-    input_count: usize,
-    input_columns: &[i16],
-    output_count: usize,
-    output_columns: &[i16],
+    inputs: &System,
+    outputs: &System,
     s: State,
     input: &[u8],
     i: usize,
@@ -132,24 +99,11 @@ pub fn step(
     p: usize,
     list: usize,
 ) -> Move
-    requires { (Columns input_columns.now) × (Columns output_columns.now) × (Ready (setting (lent input_count input_columns.now) (lent output_count output_columns.now)) s) × (Recognised r b (setting (lent input_count input_columns.now) (lent output_count output_columns.now))) }
-    ensures { Follows (plan (setting (lent input_count input_columns.now) (lent output_count output_columns.now)) s) s (one_word (drop i input.now) (room - o) (list - p)) result }
+    requires { (Ready (setting (system_of inputs.now) (system_of outputs.now)) s) × (Recognised r b (setting (system_of inputs.now) (system_of outputs.now))) }
+    ensures { Follows (plan (setting (system_of inputs.now) (system_of outputs.now)) s) s (one_word (drop i input.now) (room - o) (list - p)) result }
 {
-    let held = s.held;
-    match held {
-        Held::Nothing => steps::load(input_count, s, input, i),
-        Held::Digit(h) => emit(
-            r,
-            b,
-            input_columns,
-            output_count,
-            output_columns,
-            s,
-            h,
-            o,
-            room,
-            p,
-            list,
-        ),
+    match s.held {
+        None => steps::load(inputs.count, s, input, i),
+        Some(h) => emit(r, b, inputs, outputs, s, h, o, room, p, list),
     }
 }

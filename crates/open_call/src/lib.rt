@@ -11,19 +11,14 @@ use numbers::WRONG_LENGTH;
 pub fn open(matrix: &[i64], state: &mut [i64]) -> u32
     ensures { wrote result state.new ≡ open_call_of matrix.now state.old }
 {
-    if matrix.len() != 4 {
+    if matrix.len() != 4 || state.len() != 5 {
         return WRONG_LENGTH;
     }
-    if state.len() != 5 {
-        return WRONG_LENGTH;
+    match opening::open(numbers::matrix_from(matrix)) {
+        Err(refusal) => u32::from(refusal.number()),
+        Ok(s) => {
+            numbers::put_state(s, state);
+            0
+        }
     }
-    let start = opening::open(numbers::matrix_from(matrix));
-    let opening = start.opening;
-    let s = start.state;
-    let number = opening::opening_number(opening);
-    if number != 0 {
-        return number as u32;
-    }
-    numbers::put_state(s, state);
-    0
 }

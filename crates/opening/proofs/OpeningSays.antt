@@ -2,15 +2,16 @@
 use Rattle.whole.proofs.Laws.{◌≡◌, refl, sym, ◌∙◌, ap, subst, Bool, true, false, cond, true≢false, List, ◌↔◌, ℕ, arith, ℤ, pos, lt_z, clash_ℤ, Within, within_le, lt_true, lt_false, within?, within_says, says_within}
 use Rattle.plane.proofs.Laws.{determinant_of, cancel_within}
 use Rattle.states.proofs.Laws.{StateRules, cancelled_rules}
-use Rattle.opening.specs.Types.{Opening, Opens, OutOfRange, NotAbove, Start}
+use Rattle.refusals.proofs.Numbers.{numbered}
+use Rattle.opening.specs.Types.{Opening, Opens, OutOfRange, MatrixNotAbove, Ok, Err, Start}
 use Rattle.opening.specs.Opening.{opening_number, opening_of, open_of, OpeningCase, start_of}
 
 -- the answer that is given, by the two tests
-by_above : (m : List ℤ) (t : Bool) → lt_z (pos 0) (determinant_of m) ≡ t → Within 1000 m → OpeningCase m (cond t Opens NotAbove)
+by_above : (m : List ℤ) (t : Bool) → lt_z (pos 0) (determinant_of m) ≡ t → Within 1000 m → OpeningCase m (cond t Opens (Err MatrixNotAbove))
 by_above m true e w = (w, lt_true (pos 0) (determinant_of m) e)
 by_above m false e w = (w, lt_false (pos 0) (determinant_of m) e)
 
-by_range : (m : List ℤ) (t : Bool) → within? 1000 m ≡ t → OpeningCase m (cond t (cond (lt_z (pos 0) (determinant_of m)) Opens NotAbove) OutOfRange)
+by_range : (m : List ℤ) (t : Bool) → within? 1000 m ≡ t → OpeningCase m (cond t (cond (lt_z (pos 0) (determinant_of m)) Opens (Err MatrixNotAbove)) (Err OutOfRange))
 by_range m true e = by_above m (lt_z (pos 0) (determinant_of m)) refl (within_says 1000 m e)
 by_range m false e = λ w. true≢false (sym (says_within w) ∙ e)
 
@@ -19,9 +20,8 @@ opening_says m = by_range m (within? 1000 m) refl
 
 -- it is handed out
 handed_out_lem : (m : List ℤ) (v : Opening) → (start_of m v).opening ≡ v
-handed_out_lem m Opens = refl
-handed_out_lem m OutOfRange = refl
-handed_out_lem m NotAbove = refl
+handed_out_lem m (Ok u) = refl
+handed_out_lem m (Err r) = refl
 
 handed : (m : List ℤ) → (open_of m).opening ≡ opening_of m
 unfolding open_of
@@ -29,21 +29,24 @@ handed m = handed_out_lem m (opening_of m)
 
 -- no two of document 01's sentences on opening hold of one matrix
 pub one_case : (m : List ℤ) (v w : Opening) → OpeningCase m v → OpeningCase m w → v ≡ w
-one_case m Opens Opens p q = refl
-one_case m Opens OutOfRange p q = absurd (q p.0)
-one_case m Opens NotAbove p q = absurd (clash_ℤ p.1 q.1)
-one_case m OutOfRange Opens p q = absurd (p q.0)
-one_case m OutOfRange OutOfRange p q = refl
-one_case m OutOfRange NotAbove p q = absurd (p q.0)
-one_case m NotAbove Opens p q = absurd (clash_ℤ q.1 p.1)
-one_case m NotAbove OutOfRange p q = absurd (q p.0)
-one_case m NotAbove NotAbove p q = refl
+one_case m (Ok u) (Ok v) p q = refl
+one_case m (Ok u) (Err OutOfRange) p q = absurd (q p.0)
+one_case m (Ok u) (Err MatrixNotAbove) p q = absurd (clash_ℤ p.1 q.1)
+one_case m (Err OutOfRange) (Ok u) p q = absurd (p q.0)
+one_case m (Err OutOfRange) (Err OutOfRange) p q = refl
+one_case m (Err OutOfRange) (Err MatrixNotAbove) p q = absurd (p q.0)
+one_case m (Err MatrixNotAbove) (Ok u) p q = absurd (clash_ℤ q.1 p.1)
+one_case m (Err MatrixNotAbove) (Err OutOfRange) p q = absurd (q p.0)
+one_case m (Err MatrixNotAbove) (Err MatrixNotAbove) p q = refl
+one_case m (Ok u) (Err r) p q = absurd q
+one_case m (Err OutOfRange) (Err r) p q = absurd q
+one_case m (Err MatrixNotAbove) (Err r) p q = absurd q
+one_case m (Err r) w p q = absurd p
 
 -- only "opens" has the number 0
 pub opening_0 : (v : Opening) → opening_number v ≡ 0 → v ≡ Opens
-opening_0 Opens e = refl
-opening_0 OutOfRange e = absurd (omega arith)
-opening_0 NotAbove e = absurd (omega arith)
+opening_0 (Ok u) e = refl
+opening_0 (Err r) e = absurd (omega (arith, numbered r, e))
 
 -- each answer is given exactly in its case
 pub opens : (m : List ℤ) (v : Opening) → ((open_of m).opening ≡ v) ↔ OpeningCase m v

@@ -1,7 +1,17 @@
--- The types of src/, for one `use` line. (A crate passes on a type of `declared` only from under another name.)
-use Rattle.opening.specs.declared.Opening as EOpening
-use Rattle.opening.specs.declared.Opening.TheVariants as VOpening
-use Rattle.opening.specs.declared.Start as SStart
-pub use EOpening.{Opening}
-pub use VOpening.{Opens, OutOfRange, NotAbove}
-pub use SStart.{Start}
+-- The types of opening, for one `use` line: what it answers, and what it hands out.
+use Rattle.refusals.specs.Types as R
+use Rattle.refusals.specs.Numbers.{Judgement}
+use Rattle.states.specs.Types.{State}
+pub use R.{Refusal, OutOfRange, MatrixNotAbove, Result, Ok, Err}
+
+-- it opens, or is refused
+abbrev pub Opening : Type 0
+Opening = Judgement
+
+abbrev pub Opens : Opening
+Opens = R.Ok tt
+
+-- an opened session, or the refusal with nothing in the state's place
+pub record Start : Type 0 where
+  pub opening : Opening
+  pub state : State

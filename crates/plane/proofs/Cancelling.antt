@@ -4,7 +4,6 @@
 -- The argument: a matrix of determinant above 0 has an entry that is not 0, so the divisor is above 0 and goes out of every entry (`Divisor` of the crate `whole`). What
 -- follows is said of any n and m with k·n = m entry by entry, k above 0 (`Times4 k n m`), of which a matrix and its cancelled form are one case.
 use Rattle.whole.proofs.Laws.{◌≡◌, refl, sym, ◌∙◌, ap, subst, List, ℕ, zero, suc, ◌*◌, ◌<◌, arith, length, ℤ, pos, ◌*ℤ◌, ◌<ℤ◌, at, gcd4, divided, nat_abs, quot_z, one-dvd, quot_exact, ◌⊖◌, ◌⊗◌, #, ◌≗◌, law, ◌≺◌, ◌≈◌, never, h, ◌⊡◌, linear, ◌&◌, ◌⇒◌, ◌from◌, claim, cancel_pos, up<, Times, Times4, gcd4_divides, gcd4_zero, divided_times, reduced, reduced_only}
-use native.Mathlib.Nat as N
 use Rattle.plane.specs.Plane.{Pair, SamePoint, apply, determinant_of, image_of, cancel_of}
 use Rattle.plane.specs.Scale.{entries, scale_of, DetAbove, SameSign, SameSigns, SameEnds}
 use Rattle.plane.proofs.SameSign.{grown, sign_back, square_above, above_not_0}

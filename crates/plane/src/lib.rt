@@ -12,7 +12,8 @@ pub fn determinant(m: [i64; 4]) -> i64
     requires { Products m }
     ensures { result ≡ determinant_of m }
 {
-    m[0] * m[3] - m[1] * m[2]
+    let [a, b, c, d] = m;
+    a * d - b * c
 }
 
 // "Its pseudoinverse is [d, −b, −c, a]."
@@ -20,5 +21,6 @@ pub fn pseudoinverse(m: [i64; 4]) -> [i64; 4]
     requires { Within 1000000000 m }
     ensures { result ≡ pseudoinverse_of m }
 {
-    [m[3], -m[1], -m[2], m[0]]
+    let [a, b, c, d] = m;
+    [d, -b, -c, a]
 }

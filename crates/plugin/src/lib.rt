@@ -20,10 +20,10 @@ use numbers::WRONG_LENGTH;
 pub fn sled_admit(digits: usize, columns: &[i16]) -> u32
     ensures { result ≡ admit_number (lent_system digits columns.now) }
 {
-    if columns.len() != 128 {
+    let Some(system) = numbers::system_from(digits, columns) else {
         return WRONG_LENGTH;
-    }
-    admission::refusal_number(admission::admission_of(digits, columns)) as u32
+    };
+    u32::from(refusals::outcome_number(admission::admission_of(&system)))
 }
 
 // A system's rows, one behind the other, into columns.

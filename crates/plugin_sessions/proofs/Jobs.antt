@@ -1,9 +1,9 @@
 -- A job that is read opens a session: of `jobs::read` (`read_opens`), and of sled_read and then sled_open (`sled_read_opens`), whose numbers are lent to sled_run as the
 -- header says: found[0] and the input system's columns, found[1] and the output system's.
 -- The argument: what reads keeps the rules of document 01 (crates/jobs, crates/answers), so both systems are admitted and the matrix opens.
-use Rattle.whole.proofs.Laws.{◌≡◌, ap, ◌∙◌, List, ℕ, length, ℤ, pos, eq-eqb, unless_refused}
+use Rattle.whole.proofs.Laws.{◌≡◌, List, ℕ, length, ℤ, pos, eq-eqb, unless_refused}
 use Rattle.plane.proofs.Laws.{entries}
-use Rattle.digits.proofs.Laws.{StoredSystem, system_of, rows_of, columns_length}
+use Rattle.digits.proofs.Laws.{StoredSystem, system_of}
 use Rattle.admission.proofs.Laws.{Admitted, admitted_exactly}
 use Rattle.runs.proofs.Laws.{nothing}
 use Rattle.steps.proofs.Laws.{setting}
@@ -20,6 +20,7 @@ use Rattle.plugin.specs.Calls.{admit_number}
 use Rattle.answers.specs.Calls.{job_from}
 use Rattle.answers.proofs.Laws.{sled_read_in_range}
 use Rattle.plugin_sessions.specs.PluginSession.{PluginSession, opened}
+use Rattle.plugin_sessions.proofs.Shared.{columns_128}
 
 -- ---- read
 
@@ -36,9 +37,7 @@ read_opens file b e =
 -- a system that was read is admitted by its columns
 admits_read : (s : StoredSystem) → SystemRules s → admit_number s ≡ 0
 unfolding admit_number
-admits_read s h =
-    let size : length s.columns ≡ 128 = ap length h.unused ∙ columns_length (rows_of s) in
-    rw (eq-eqb (length s.columns) 128 size, (admitted_exactly (system_of s) Admitted).1 h.admissible)
+admits_read s h = rw (eq-eqb (length s.columns) 128 (columns_128 h), (admitted_exactly (system_of s) Admitted).1 h.admissible)
 
 opens_matrix : (m old : List ℤ) → MatrixRules m → length old ≡ 5 → (open_call_of m old).number ≡ 0
 unfolding open_call_of unless_refused

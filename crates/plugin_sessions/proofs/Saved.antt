@@ -1,9 +1,9 @@
 -- Job files through the C functions: what sled_write has written, sled_read reads as the same job (`sled_written_reads`); and what sled_read has read, sled_write writes again
 -- byte for byte (`sled_read_again`).
-use Rattle.whole.proofs.Laws.{◌≡◌, refl, sym, ap, ◌∙◌, subst, Bool, true, false, cond, List, [], ◌∷◌, ℕ, zero, suc, ◌+◌, ◌*◌, ◌≤◌, arith, eq-eqb, length, get_or, take, drop, ℤ, pos, unless_refused, front_written, written}
+use Rattle.whole.proofs.Laws.{◌≡◌, refl, ap, ◌∙◌, Bool, true, false, cond, List, [], ◌∷◌, ℕ, ◌≤◌, arith, eq-eqb, length, get_or, take, drop, ℤ, pos, front_written, written}
 use Rattle.plane.proofs.Laws.{entries}
-use Rattle.digits.proofs.Laws.{StoredSystem, rows_of, columns_length}
-use Rattle.job_sections.proofs.Laws.{Bytes, Contents, SystemRules, layout_of, Rules}
+use Rattle.digits.proofs.Laws.{StoredSystem}
+use Rattle.job_sections.proofs.Laws.{Bytes, Contents, layout_of, Rules}
 use Rattle.job_writing.proofs.Laws.{Wrote, contents, write_of}
 use Rattle.jobs.proofs.Laws.{Reading, Reads, read_of, reading_of, verdict_number, layout_reads}
 use Rattle.round_trips.proofs.Laws.{Outcome, WriteRefuses, as_read, refuses, saves, too_short, unwritable, write_says, read_again}
@@ -12,6 +12,7 @@ use Rattle.read_call.specs.ReadCall.{AfterRead, after_read, read_lengths?, read_
 use Rattle.write_call.specs.WriteCall.{AfterWrite, after_write, wrote_call, write_lengths?, write_call_of}
 use Rattle.answers.specs.Calls.{job_from}
 use Rattle.answers.proofs.Laws.{contents_number, contents_above, read_in_range}
+use Rattle.plugin_sessions.proofs.Shared.{answers_0, next_0, columns_128}
 
 -- ---- written, and read
 
@@ -41,21 +42,6 @@ module _ (a b : StoredSystem) (m : List ℤ) (word file old : List ℕ) (bytes :
 
 -- ---- read, and written again
 
--- an answer 0 is a job's numbers
-read_0 : (n : ℕ) (in_columns out_columns m : List ℤ) (found : List ℕ) {y : AfterRead} →
-    let r = unless_refused n (λ k. after_read k in_columns out_columns m found) y in r.number ≡ 0 → (n ≡ 0) × (r ≡ y)
-unfolding unless_refused
-read_0 zero in_columns out_columns m found e = (refl, refl)
-read_0 (suc n) in_columns out_columns m found e = absurd (omega (arith, e))
-
-lengths_0 : (t : Bool) {n : ℕ} → cond t n wrong_length ≡ 0 → n ≡ 0
-lengths_0 true e = e
-lengths_0 false e = absurd (omega (arith, e))
-
--- a system that reads has 128 numbers
-columns_128 : {s : StoredSystem} → SystemRules s → length s.columns ≡ 128
-columns_128 {s} h = ap length h.unused ∙ columns_length (rows_of s)
-
 -- a job's numbers, written again
 job_again : (file : List ℕ) → Bytes file → (read_of file).verdict ≡ Reads → (buffer old : List ℕ) → length file ≤ length buffer → length old ≡ 1 → let j = (read_of file).job in
     write_call_of j.input j.output (entries j.matrix) (take j.word.length (drop j.word.start file)) buffer old ≡ after_write 0 (written file buffer) (length file ∷ [])
@@ -73,7 +59,8 @@ pub sled_read_again : (file : List ℕ) → Bytes file → (in_columns out_colum
     write_call_of j.input j.output j.matrix (take j.word.length (drop j.word.start file)) buffer old ≡ after_write 0 (written file buffer) (length file ∷ [])
 unfolding read_call_of
 sled_read_again file b in_columns out_columns m found e buffer old room one =
-    let r = read_0 (read_number (length in_columns) (length out_columns) (length m) (length found) (read_of file).verdict) in_columns out_columns m found e in
-    let z = lengths_0 (read_lengths? (length in_columns) (length out_columns) (length m) (length found)) r.0 in
+    let r = next_0 (λ (r : AfterRead). r.number) {refuse = λ k. after_read k in_columns out_columns m found} (λ k. refl)
+    (read_number (length in_columns) (length out_columns) (length m) (length found) (read_of file).verdict) e in
+    let right = answers_0 (λ (n : ℕ). n) refl (read_lengths? (length in_columns) (length out_columns) (length m) (length found)) r.0 in
     ap (λ (q : AfterRead). let j = job_from q in write_call_of j.input j.output j.matrix (take j.word.length (drop j.word.start file)) buffer old) r.1 ∙
-    job_again file b ((read_in_range file b).reads (omega (arith, z))) buffer old room one
+    job_again file b ((read_in_range file b).reads (omega (arith, right.1, r.0))) buffer old room one

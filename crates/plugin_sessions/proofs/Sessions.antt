@@ -10,14 +10,14 @@ use Rattle.opening.proofs.Laws.{Opens, opening_number, open_of, opening_0}
 use Rattle.unary.proofs.Laws.{run_of, in_range}
 use Rattle.meaning.proofs.Laws.{session_sound, session_accepted, session_product, session_scale, session_named, session_numbers, newly_opened, called_by_contract}
 use Rattle.meaning.specs.Session.{Session, ProductHolds, ScaleNamed, NamedHolds, NumbersHold}
-use Rattle.numbers.proofs.Laws.{wrong_length, written_0, state_numbers, state_after, known, state_back}
+use Rattle.numbers.proofs.Laws.{wrong_length, wrote, state_numbers, state_after, known, state_back}
 use Rattle.numbers.specs.Numbers.{Wrote, state_from}
 use Rattle.open_call.proofs.Laws.{open_call_of}
-use Rattle.open_call.specs.OpenCall.{open_lengths?, opened as openedCall}
+use Rattle.open_call.specs.OpenCall.{open_lengths?}
 use Rattle.run_call.proofs.Laws.{run_call_of}
 use Rattle.run_call.specs.RunCall.{AfterRun, run_lengths?, ran_call}
 use Rattle.plugin_sessions.specs.PluginSession.{PluginSession, opened, called, IsSession, did_call}
-use Rattle.plugin_sessions.proofs.Shared.{not_40, answers_0, admits, held_byte}
+use Rattle.plugin_sessions.proofs.Shared.{not_40, answers_0, next_0, admits, held_byte}
 
 -- ---- a session's state is read back from its numbers
 
@@ -40,11 +40,12 @@ opens_call m old e =
     let right = answers_0 (λ (w : Wrote). w.number) refl (open_lengths? m old) e in
     let four = eqb-true (length m) 4 (both_true (eqb (length m) 4) (eqb (length old) 5) right.0).0 in
     let same : entries m ≡ m = rw (known (pos 0) 4 m four) in
-    let number = written_0 (opening_number (open_of (entries m)).opening) old (state_numbers (open_of (entries m)).state) (ap (λ (w : Wrote). w.number) (sym right.1) ∙ e) in
+    let number = next_0 (λ (w : Wrote). w.number) {refuse = λ k. wrote k old} {next = wrote 0 (state_numbers (open_of (entries m)).state)} (λ k. refl)
+    (opening_number (open_of (entries m)).opening) (ap (λ (w : Wrote). w.number) (sym right.1) ∙ e) in
     record {
       four = four;
       opens = ap (λ (x : List ℤ). (open_of x).opening) (sym same) ∙ opening_0 (open_of (entries m)).opening number.0;
-      numbers = ap (λ (w : Wrote). w.numbers) right.1 ∙ number.1 ∙ ap (λ (x : List ℤ). state_numbers (open_of x).state) same;
+      numbers = ap (λ (w : Wrote). w.numbers) (right.1 ∙ number.1) ∙ ap (λ (x : List ℤ). state_numbers (open_of x).state) same;
     }
 
 -- ---- the calls

@@ -20,14 +20,8 @@ pub fn multiply(m: [i64; 4], n: [i64; 4]) -> [i64; 4]
     requires { FactorsFit m n }
     ensures { result ≡ multiply_of m n }
 {
-    let a = m[0];
-    let b = m[1];
-    let c = m[2];
-    let d = m[3];
-    let x = n[0];
-    let y = n[1];
-    let z = n[2];
-    let w = n[3];
+    let [a, b, c, d] = m;
+    let [x, y, z, w] = n;
     [
         dot(a, b, x, z),
         dot(a, b, y, w),
@@ -41,6 +35,7 @@ pub fn image(m: [i64; 4], w: [i64; 4]) -> [i64; 4]
     requires { (Within 1000000000 m) × (Within 100 w) }
     ensures { result ≡ image_of m w }
 {
-    let p = multiply(m, [w[0], w[2], w[1], w[3]]);
-    [p[0], p[2], p[1], p[3]]
+    let [x0, x1, y0, y1] = w;
+    let [u0, v0, u1, v1] = multiply(m, [x0, y0, x1, y1]);
+    [u0, u1, v0, v1]
 }

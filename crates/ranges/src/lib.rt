@@ -4,36 +4,21 @@
 ghost use Rattle.std.specs.Prelude.{◌≡◌, leb, nat_abs};
 ghost use Rattle.whole.specs.Range.{within?};
 
-// Whether four numbers lie in −b..b. Of any four numbers at all. How far each lies from 0 is worked out before the first test: most often all four are asked for.
-pub fn within(m: [i64; 4], b: u64) -> bool
-    ensures { result ≡ within? b m }
+// Whether a number lies in −B..B. The bound is a constant, so that the two comparisons become one; `unsigned_abs` would be worked out before it. No i64 lies further from 0 than a
+// bound that is none.
+fn near<const B: u64>(a: i64) -> bool
+    ensures { result ≡ leb (nat_abs a) B }
 {
-    let p = whole::magnitude(m[0]);
-    let q = whole::magnitude(m[1]);
-    let r = whole::magnitude(m[2]);
-    let s = whole::magnitude(m[3]);
-    if b < p {
-        return false;
+    match i64::try_from(B) {
+        Ok(bound) => (-bound <= a) & (a <= bound),
+        Err(_) => true,
     }
-    if b < q {
-        return false;
-    }
-    if b < r {
-        return false;
-    }
-    s <= b
 }
 
-// Whether a number lies in the range of a state's entries. The bound is a constant here, so that the two comparisons become one.
-fn near_state(a: i64) -> bool
-    ensures { result ≡ leb (nat_abs a) 1000000000 }
+// Whether four numbers lie in −B..B. Of any four numbers at all. All four are looked at, so that there is nothing to branch on but the answer.
+pub fn within<const B: u64>(m: [i64; 4]) -> bool
+    ensures { result ≡ within? B m }
 {
-    (-1000000000 <= a) & (a <= 1000000000)
-}
-
-// Whether four numbers lie in the range of a state's entries, ±1,000,000,000. Of any four numbers at all.
-pub fn within_state(m: [i64; 4]) -> bool
-    ensures { result ≡ within? 1000000000 m }
-{
-    near_state(m[0]) & near_state(m[1]) & near_state(m[2]) & near_state(m[3])
+    let [a, b, c, d] = m;
+    near::<B>(a) & near::<B>(b) & near::<B>(c) & near::<B>(d)
 }

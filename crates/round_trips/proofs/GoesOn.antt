@@ -2,7 +2,7 @@
 use Rattle.whole.proofs.Laws.{◌≡◌, sym, ap, ◌∙◌, List, ◌∷◌, ◌++◌, ℕ, ◌-◌, ◌<◌, add-one, add-zero, arith, lt-ltb, length, ℤ, Within, written}
 use Rattle.plane.proofs.Laws.{cancel_kept}
 use Rattle.digits.proofs.Laws.{System}
-use Rattle.states.proofs.Laws.{Held, Nothing, Digit, State, opened, loaded, StateRules}
+use Rattle.states.proofs.Laws.{Held, None, Some, State, opened, loaded, StateRules}
 use Rattle.opening.proofs.Laws.{Opens, open_of, opens, hands_out}
 use Rattle.runs.proofs.Laws.{Course, run, runs, only, took_x, goes, follow}
 use Rattle.runs.specs.Run.{behind, makes}
@@ -45,9 +45,9 @@ module _ (a b : System) (m : List ℤ) where
   goes_on : (h : Held) → Accepted (setting a b) (record { matrix = m; held = h }) → (word output divisors : List ℕ) →
       run_of a b (opened m) (held_bytes h ++ word) output divisors ≡ took_more (length (held_bytes h)) (run_of a b (record { matrix = m; held = h }) word output divisors)
   unfolding steps_of
-  goes_on Nothing k word output divisors = let r = run_of a b (opened m) word output divisors in
+  goes_on None k word output divisors = let r = run_of a b (opened m) word output divisors in
       λ i. ran (answered r.answer.stop (sym (add-zero r.answer.taken.0) i) r.answer.written.0 r.answer.listed.0 r.answer.state) r.output r.divisors
-  goes_on (Digit h) k word output divisors =
+  goes_on (Some h) k word output divisors =
       let y = setting a b in
       let s = loaded (opened m) h in
       let q = run (plain y) s (one_word word (length output) (length divisors)) in

@@ -2,15 +2,15 @@
 -- The job that is opened goes on as the session would.
 use Rattle.std.specs.Prelude.{◌≡◌, List, [], ◌∷◌, ◌++◌, ℕ, ◌+◌, length}
 use Rattle.digits.specs.System.{System}
-use Rattle.states.specs.Types.{Held, Nothing, Digit, State}
+use Rattle.states.specs.Types.{Held, None, Some, State}
 use Rattle.opening.specs.Types.{Opens}
 use Rattle.states.specs.State.{opened}
 use Rattle.opening.specs.Opening.{open_of}
 use Rattle.unary.specs.Run.{Ran, ran, answered, run_of}
 
 abbrev pub held_bytes : Held → List ℕ
-held_bytes Nothing = []
-held_bytes (Digit h) = h ∷ []
+held_bytes None = []
+held_bytes (Some h) = h ∷ []
 
 -- the same run, but for so many bytes more that were taken
 abbrev pub took_more : ℕ → Ran → Ran

@@ -1,7 +1,7 @@
 // A run, over numbers and bytes that a plug-in lends: what it answers, and what every lent number and byte is afterwards. `sled_run` (crate `plugin`) is this for C.
 #![tactic(auto)]
 
-ghost use Rattle.std.specs.Prelude.{◌≡◌, ◌&&◌, [], ◌∷◌, eqb, length};
+ghost use Rattle.std.specs.Prelude.{◌≡◌, [], ◌∷◌, length};
 ghost use Rattle.states.specs.State.{end_number};
 ghost use Rattle.numbers.specs.Numbers.{lent_system, state_after};
 ghost use Rattle.run_call.specs.RunCall.{after_run, run_call_of};
@@ -9,29 +9,16 @@ ghost use Rattle.run_call.specs.RunCall.{after_run, run_call_of};
 use numbers::WRONG_LENGTH;
 use unary::Answer;
 
-// Whether the lengths are right of what a run is lent: the columns of two systems, a state, and three counts.
-fn run_lengths(in_columns: usize, out_columns: usize, state: usize, counts: usize) -> bool
-    ensures { result ≡ (eqb in_columns 128 && eqb out_columns 128 && eqb state 5 && eqb counts 3) }
-{
-    (in_columns == 128) & (out_columns == 128) & (state == 5) & (counts == 3)
-}
-
 // An answer: its number; the three counts, taken, written and listed; and the state, unless the run was refused.
 fn put_answer(a: Answer, state: &mut [i64], counts: &mut [usize]) -> u32
     requires { (length state.old ≡ 5) × (length counts.old ≡ 3) }
     ensures { (result ≡ end_number a.stop) × (state.new ≡ state_after a.stop a.state state.old) × (counts.new ≡ a.taken.0 ∷ a.written.0 ∷ a.listed.0 ∷ []) }
 {
-    let stop = a.stop;
-    let s = a.state;
-    counts[0] = a.taken.0;
-    counts[1] = a.written.0;
-    counts[2] = a.listed.0;
-    let number = states::end_number(stop) as u32;
-    if states::refused(stop) {
-        return number;
+    counts.copy_from_slice(&[a.taken.0, a.written.0, a.listed.0]);
+    if !states::refused(a.stop) {
+        numbers::put_state(a.state, state);
     }
-    numbers::put_state(s, state);
-    number
+    u32::from(states::end_number(a.stop))
 }
 
 // Runs: takes bytes of the input, writes digits to the output and lists divisors until a step stops. Answers why; the state and the three counts, taken, written and listed, are written back.
@@ -49,21 +36,19 @@ pub fn run(
     ensures { after_run result state.new output.new divisors.new counts.new ≡
         run_call_of (lent_system in_digits in_columns.now) (lent_system out_digits out_columns.now) input.now state.old output.old divisors.old counts.old }
 {
-    if !run_lengths(
-        in_columns.len(),
-        out_columns.len(),
-        state.len(),
-        counts.len(),
-    ) {
+    let (Some(inputs), Some(outputs)) = (
+        numbers::system_from(in_digits, in_columns),
+        numbers::system_from(out_digits, out_columns),
+    ) else {
+        return WRONG_LENGTH;
+    };
+    if state.len() != 5 || counts.len() != 3 {
         return WRONG_LENGTH;
     }
-    let s = numbers::state_from(state);
     let a = unary::run_lent(
-        in_digits,
-        in_columns,
-        out_digits,
-        out_columns,
-        s,
+        &inputs,
+        &outputs,
+        numbers::state_from(state),
         input,
         output,
         divisors,

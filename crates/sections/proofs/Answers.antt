@@ -1,7 +1,11 @@
 -- For code that reads section after section: how an answer about one is made, and how it is used.
 use Rattle.whole.proofs.Laws.{◌≡◌, refl, sym, ap, ◌∙◌, subst, List, inl, inr, ℕ, suc, ◌+◌, ◌-◌, ◌≤◌, ◌<◌, arith, length, take, drop, length-drop, drop_of_length-le, drop-drop, passed, decided}
 use borrow.Author.Rules.{part_to_end}
-use Rattle.sections.specs.Section.{Limits, size_of, presence, Present, Section, value_of, number_of}
+use Rattle.refusals.specs.Types.{Refusal, Result, Ok, Err}
+use Rattle.refusals.specs.Numbers.{number_of}
+use Rattle.refusals.proofs.Numbers.{numbered}
+use Rattle.sections.specs.Types.{Part}
+use Rattle.sections.specs.Section.{Limits, size_of, presence, Present, Section, value_of, number_of as section_number}
 use Rattle.sections.specs.File.{File, ends, nothing, ◌then◌}
 use Rattle.sections.specs.Answered.{Answered}
 use Rattle.sections.proofs.Counted.{absent_number, presence_says}
@@ -10,17 +14,22 @@ use Rattle.sections.proofs.Files.{follows}
 
 -- ---- made
 
-pub present : (l : Limits) (bytes : List ℕ) → 1 ≤ l.wrong → {k : ℕ} → k ≡ presence l bytes → k ≡ 0 → Present l bytes
-present l bytes w e z = elim (presence_says l bytes) [ inl p ↦ p | inr a ↦ absurd (omega (arith, absent_number w a)) ]
+pub present : (l : Limits) (bytes : List ℕ) → 1 ≤ l.wrong → 0 ≡ presence l bytes → Present l bytes
+present l bytes w e = elim (presence_says l bytes) [ inl p ↦ p | inr a ↦ absurd (omega (arith, absent_number w a)) ]
 
-module _ {A : Type 0} (s : Section A) {bytes : List ℕ} {k n : ℕ} {v : A} where
-  pub not_there : k ≡ presence s.limits bytes → (k ≡ 0 → ⊥) → Answered s bytes k n v
-  unfolding number_of
-  not_there e f = record { number = e ∙ sym (decided _ _ (λ z. f (e ∙ z))); taken = λ z. absurd (f z) }
+module _ {A : Type 0} (s : Section A) {bytes : List ℕ} where
+  -- its presence decides
+  pub not_there : {e : Refusal} → number_of e ≡ presence s.limits bytes → Answered s bytes (Err e)
+  unfolding section_number
+  not_there {e} h = record { number = h ∙ sym (decided _ _ (λ z. omega (arith, numbered e, h))); taken = tt }
 
-  pub answered : Present s.limits bytes → n ≡ size_of s.limits bytes → v ≡ value_of s bytes → k ≡ s.number v → Answered s bytes k n v
-  answered p size value e =
-      record { number = e ∙ ap s.number value ∙ sym (present_number s p); taken = λ z. record { present = p; size = size; value = value } }
+  -- then its value is judged
+  pub refused_there : {e : Refusal} {v : A} → Present s.limits bytes → v ≡ value_of s bytes → number_of e ≡ s.number v → Answered s bytes (Err e)
+  refused_there p value e = record { number = e ∙ ap s.number value ∙ sym (present_number s p); taken = tt }
+
+  pub answered : {n : ℕ} {v : A} → Present s.limits bytes → n ≡ size_of s.limits bytes → v ≡ value_of s bytes → 0 ≡ s.number v →
+      Answered s bytes (Ok (record { size = n; value = v }))
+  answered p size value e = record { number = e ∙ ap s.number value ∙ sym (present_number s p); taken = record { present = p; size = size; value = value } }
 
 -- ---- used
 
@@ -37,26 +46,25 @@ from file p = take (length file - p) (drop p file)
 pub left : {A R : Type 0} {f : File A} {r : R} {file : List ℕ} {answer : A → R} {refuse : ℕ → ℕ → R} {i p : ℕ} → Reached r file f answer refuse i p → p + length (from file p) ≡ length file
 left {file = file} {p = p} h = omega (arith, h.there, ap length (part_to_end file p), length-drop p file)
 
-pub at_0 : {A : Type 0} {s : Section A} (file : List ℕ) {k n : ℕ} {v : A} → Answered s file k n v → Answered s (from file 0) k n v
-at_0 {s = s} file {k} {n} {v} a = subst (λ (l : List ℕ). Answered s l k n v) (sym (part_to_end file 0)) a
+pub at_0 : {A : Type 0} {s : Section A} (file : List ℕ) {o : Result (Part A) Refusal} → Answered s file o → Answered s (from file 0) o
+at_0 {s = s} file {o} a = subst (λ (l : List ℕ). Answered s l o) (sym (part_to_end file 0)) a
 
-module _ {A B R : Type 0} {s : Section A} {f : File B} {r : R} {file : List ℕ} {answer : A × B → R} {refuse : ℕ → ℕ → R} {i p : ℕ} (h : Reached r file (s then f) answer refuse i p)
-    {k n : ℕ} {v : A} (a : Answered s (from file p) k n v) where
+module _ {A B R : Type 0} {s : Section A} {f : File B} {r : R} {file : List ℕ} {answer : A × B → R} {refuse : ℕ → ℕ → R} {i p : ℕ} (h : Reached r file (s then f) answer refuse i p) where
   read_part : r ≡ (s then f).read answer refuse i (from file p)
   read_part = h.is ∙ ap ((s then f).read answer refuse i) (sym (part_to_end file p))
 
   -- a section that is refused decides
-  pub stops : (k ≡ 0 → ⊥) → refuse k i ≡ r
-  stops n = sym (read_part ∙ decided _ _ (λ z. n (a.number ∙ z)) ∙ ap (λ (m : ℕ). refuse m i) (sym a.number))
+  pub stops : {e : Refusal} → Answered s (from file p) (Err e) → refuse (number_of e) i ≡ r
+  stops {e} a = sym (read_part ∙ decided _ _ (λ z. omega (arith, numbered e, a.number, z)) ∙ ap (λ (m : ℕ). refuse m i) (sym a.number))
 
   -- and one that is not leaves it to the next
-  pub goes : {q : ℕ} → p + n ≡ q → k ≡ 0 → Reached r file f (λ b. answer (v, b)) refuse (suc i) q
-  goes e z =
-      let t = a.taken z in
-      let rest = (λ j. drop (sym t.size j) (part_to_end file p j)) ∙ drop-drop n p file ∙ ap (λ (m : ℕ). drop m file) e in
+  pub goes : {t : Part A} {q : ℕ} → Answered s (from file p) (Ok t) → p + t.size ≡ q → Reached r file f (λ b. answer (t.value, b)) refuse (suc i) q
+  goes {t} a e =
+      let n = a.taken in
+      let rest = (λ j. drop (sym n.size j) (part_to_end file p j)) ∙ drop-drop t.size p file ∙ ap (λ (m : ℕ). drop m file) e in
       record {
-        is = read_part ∙ passed _ _ (sym a.number ∙ z) ∙ (λ j. f.read (λ b. answer (sym t.value j, b)) refuse (suc i) (rest j));
-        there = omega (arith, left h, t.size, t.present.fits);
+        is = read_part ∙ passed _ _ (sym a.number) ∙ (λ j. f.read (λ b. answer (sym n.value j, b)) refuse (suc i) (rest j));
+        there = omega (arith, left h, n.size, n.present.fits);
       }
 
 pub start : {A R : Type 0} (f : File A) (answer : A → R) (refuse : ℕ → ℕ → R) (file : List ℕ) → Reached (f.read answer refuse 0 file) file f answer refuse 0 0

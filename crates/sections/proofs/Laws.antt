@@ -7,9 +7,10 @@ pub use Rattle.sections.proofs.Files.{nothing_lawful, then_lawful}
 pub use Rattle.sections.proofs.WrittenFiles.{nothing_lawful_of, then_lawful_of}
 pub use Rattle.sections.proofs.Judged.{counted_judged, unwritable_judged, writable_judged, judged_says}
 -- code that reads section after section
-pub use Rattle.sections.proofs.Answers.{present, not_there, answered, Reached, start, at_0, left, stops, goes, ended, followed}
+pub use Rattle.sections.proofs.Answers.{present, not_there, refused_there, answered, Reached, start, at_0, left, stops, goes, ended, followed}
 -- the definitions
 pub use Rattle.sections.specs.Answered.{Answered, Taken}
+pub use Rattle.sections.specs.Types.{Part}
 pub use Rattle.sections.specs.Bytes.{count_of}
 pub use Rattle.sections.specs.File.{Exact, Lawful, ◌then◌, nothing, reads, refuses}
 pub use Rattle.sections.specs.Section.{Counted, Present, Told, Unwritable, Writable, size_of, value_of}

@@ -8,7 +8,8 @@ ghost use Rattle.std.specs.Prelude.{◌≡◌, ◌≤◌, length};
 
 use std::io::{self, Read, Stdin, Write};
 
-// Reads until the buffer is full, the input has ended or a read has failed. Answers how many bytes came, and that failure.
+// Reads until the buffer is full, the input has ended or a read has failed. Answers how many bytes came, and that failure. (By hand: behind an `Err` of `read_exact` nothing says how many
+// bytes came, and these are answered.)
 fn read_full(stdin: &mut Stdin, buffer: &mut [u8]) -> (usize, io::Result<()>)
     ensures length { length buffer.new ≡ length buffer.old }
     ensures within { result.0 ≤ length buffer.old }
@@ -16,12 +17,8 @@ fn read_full(stdin: &mut Stdin, buffer: &mut [u8]) -> (usize, io::Result<()>)
     let mut done = 0;
     while done < buffer.len() {
         match stdin.read(&mut buffer[done..]) {
-            Ok(n) => {
-                if n == 0 {
-                    return (done, Ok(()));
-                }
-                done += n;
-            }
+            Ok(0) => break,
+            Ok(n) => done += n,
             Err(e) => return (done, Err(e)),
         }
     }

@@ -4,12 +4,12 @@ use Rattle.whole.specs.Range.{at}
 use Rattle.text.specs.Text.{bytes_of}
 use Rattle.text.specs.Number.{decimal, signed_text}
 use Rattle.text.specs.Line.{line_of}
-use Rattle.states.specs.Types.{Held, Nothing, Digit, State}
+use Rattle.states.specs.Types.{Held, None, Some, State}
 
 -- "the held digit or `-`"
 unfoldable pub held_text : Held → List ℕ
-held_text Nothing = bytes_of "-"
-held_text (Digit d) = decimal d
+held_text None = bytes_of "-"
+held_text (Some d) = decimal d
 
 -- "the four entries and the held digit or `-`"
 unfoldable pub state_line_of : State → List ℕ

@@ -5,16 +5,16 @@ ghost use Rattle.std.specs.Prelude.{[], ◌∷◌, ◌++◌, ◌+◌, ◌≤◌,
 ghost use Rattle.text.specs.Wrote.{Wrote};
 ghost use Rattle.state_line.specs.StateLine.{held_text, state_line_of};
 
-use states::{Held, State};
+use states::State;
 
 // The line's last field, and its end.
-fn put_held(out: &mut [u8], at: usize, held: Held) -> usize
+fn put_held(out: &mut [u8], at: usize, held: Option<u8>) -> usize
     requires { at + 21 ≤ length out.old }
     ensures { Wrote out.old at (held_text held ++ (10 ∷ [])) 21 out.new result }
 {
     match held {
-        Held::Nothing => text::put_text(out, at, b"-\n"),
-        Held::Digit(d) => text::put_field(out, at, d as u64, b'\n'),
+        None => text::put_text(out, at, b"-\n"),
+        Some(d) => text::put_field(out, at, d as u64, b'\n'),
     }
 }
 
@@ -23,11 +23,9 @@ pub fn put_state(out: &mut [u8], at: usize, s: State) -> usize
     requires { at + 109 ≤ length out.old }
     ensures { Wrote out.old at (state_line_of s) 109 out.new result }
 {
-    let m = s.matrix;
-    let held = s.held;
-    let a = text::put_signed(out, at, m[0], b' ');
-    let b = text::put_signed(out, a, m[1], b' ');
-    let c = text::put_signed(out, b, m[2], b' ');
-    let d = text::put_signed(out, c, m[3], b' ');
-    put_held(out, d, held)
+    let mut p = at;
+    for entry in s.matrix {
+        p = text::put_signed(out, p, entry, b' ');
+    }
+    put_held(out, p, s.held)
 }

@@ -1,7 +1,7 @@
 -- A matrix that is cancelled keeps the rules for X, if its determinant was above 0 and it ends in the range. What the test of a held digit says. At most one digit is held. What is no refusal is an end of a step.
 use Rattle.whole.proofs.Laws.{◌≡◌, refl, true, false, true≢false, List, inl, inr, ℕ, ◌≤◌, arith, ltb-true, lt-ltb, ℤ, Within}
 use Rattle.plane.proofs.Laws.{cancel_of, DetAbove, cancel_says}
-use Rattle.states.specs.Types.{Held, Nothing, Digit, State, Stop, InputUsed, ListFull, NoRoom, NotADigit, RangeLeft, Refused}
+use Rattle.states.specs.Types.{Held, None, Some, State, Stop, InputUsed, ListFull, NoRoom, NotADigit, RangeLeft, Refused}
 use Rattle.states.specs.State.{HeldDigit, held_digit?, StateRules, held_count, end_number, refused?, EndNumber, StepEnd}
 
 pub cancelled_rules : (n : ℕ) (s : State) (m : List ℤ) → s.matrix ≡ cancel_of m → DetAbove m → Within 1000000000 s.matrix → HeldDigit n s.held → StateRules n s
@@ -11,16 +11,16 @@ cancelled_rules n s m e d w k =
 
 -- a held digit below n, by the test
 pub held_says : (n : ℕ) (h : Held) → held_digit? n h ≡ true → HeldDigit n h
-held_says n Nothing e = tt
-held_says n (Digit d) e = ltb-true d n e
+held_says n None e = tt
+held_says n (Some d) e = ltb-true d n e
 
 pub says_held : (n : ℕ) (h : Held) → HeldDigit n h → held_digit? n h ≡ true
-says_held n Nothing k = refl
-says_held n (Digit d) k = lt-ltb d n k
+says_held n None k = refl
+says_held n (Some d) k = lt-ltb d n k
 
 pub one_held : (h : Held) → held_count h ≤ 1
-one_held Nothing = omega arith
-one_held (Digit d) = omega arith
+one_held None = omega arith
+one_held (Some d) = omega arith
 
 pub step_end : (e : Stop) → refused? e ≡ false → StepEnd e
 step_end e r = record { number = by e r; not_refused = r }

@@ -3,17 +3,17 @@ use Rattle.std.specs.Prelude.{◌≡◌, Bool, true, false, List, ◌⊎◌, ℕ
 use Rattle.whole.specs.Range.{Within}
 use Rattle.whole.specs.Divisor.{gcd4}
 use Rattle.plane.specs.Plane.{determinant_of}
-use Rattle.states.specs.Types.{Held, Nothing, Digit, State, Stop, InputUsed, ListFull, NoRoom, NotADigit, RangeLeft, Refused}
+use Rattle.states.specs.Types.{Held, None, Some, State, Stop, InputUsed, ListFull, NoRoom, NotADigit, RangeLeft, Refused}
 
 -- ---- a state is built in these four ways (and at the C boundary, from a plug-in's numbers)
 
 -- "X is M cancelled, nothing held": of the cancelled matrix
 abbrev pub opened : List ℤ → State
-opened x = record { matrix = x; held = Nothing }
+opened x = record { matrix = x; held = None }
 
 -- "take the byte as the held digit. X stays."
 abbrev pub loaded : State → ℕ → State
-loaded s a = record { matrix = s.matrix; held = Digit a }
+loaded s a = record { matrix = s.matrix; held = Some a }
 
 -- a new X, where a digit is given out
 abbrev pub given : State → List ℤ → State
@@ -21,19 +21,19 @@ given s x = record { matrix = x; held = s.held }
 
 -- a new X, "and nothing is held"
 abbrev pub absorbed : State → List ℤ → State
-absorbed s x = record { matrix = x; held = Nothing }
+absorbed s x = record { matrix = x; held = None }
 
 -- ---- the rules for a state
 
 -- "a held digit of the input system, or none", where the input system has n digits
 abbrev pub HeldDigit : ℕ → Held → Type 0
-HeldDigit n Nothing = Unit {0}
-HeldDigit n (Digit d) = d < n
+HeldDigit n None = Unit {0}
+HeldDigit n (Some d) = d < n
 
 -- the same as a test
 abbrev pub held_digit? : ℕ → Held → Bool
-held_digit? n Nothing = true
-held_digit? n (Digit d) = ltb d n
+held_digit? n None = true
+held_digit? n (Some d) = ltb d n
 
 pub record StateRules (n : ℕ) (s : State) : Type 0 where
   pub cancelled : gcd4 s.matrix ≡ 1
@@ -43,8 +43,8 @@ pub record StateRules (n : ℕ) (s : State) : Type 0 where
 
 -- how many digits it holds
 abbrev pub held_count : Held → ℕ
-held_count Nothing = 0
-held_count (Digit d) = 1
+held_count None = 0
+held_count (Some d) = 1
 
 -- ---- "Why a run stopped is one of five kinds, and the kind that refuses carries its number"; document 02 has a sixth: "15, the list is full"
 

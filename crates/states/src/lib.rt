@@ -1,42 +1,31 @@
 // What a session keeps between two calls, and why a run stops: document 01's section "The step", ends 0, 20, 21 and 22, and document 02's end 15.
-// Public: `State`, `Held`, `Stop` and `end_number`. The rest is for our crates above.
+// Public: `State`, `Stop` and `end_number`. The rest is for our crates above.
 #![tactic(auto)]
 
 ghost use Rattle.std.specs.Prelude.{◌≡◌};
-ghost use Rattle.states.specs.State.{end_number, refused?, held_digit?, held_count, opened as opened_of, loaded as loadedOf, given as given_of, absorbed as absorbedOf};
+ghost use Rattle.states.specs.State.{end_number, refused?, held_digit?, held_count, opened as opened_of, loaded as loaded_of, given as given_of};
 
-// A digit that was taken and is not yet absorbed, or none.
-#[derive(Clone, Copy)]
-pub enum Held {
-    Nothing,
-    Digit(u8),
-}
-
-// What a session keeps between two calls. Only the four functions below build one, and the C boundary.
-#[derive(Clone, Copy)]
+// What a session keeps between two calls: a matrix, and the digit that was taken and is not yet absorbed, or none. Only the three functions below build one, and the C boundary.
+#[derive(Clone, Copy, Debug, PartialEq, Eq)]
 pub struct State {
     pub matrix: [i64; 4],
-    pub held: Held,
+    pub held: Option<u8>,
 }
 
-// "X is M cancelled, nothing held": of the cancelled matrix.
+// "X is M cancelled, nothing held": of the cancelled matrix. Also a new X "and nothing is held", where a digit is absorbed.
 pub fn opened(matrix: [i64; 4]) -> State
     ensures { result ≡ opened_of matrix }
 {
-    State {
-        matrix,
-        held: Held::Nothing,
-    }
+    State { matrix, held: None }
 }
 
 // "take the byte as the held digit. X stays."
 pub fn loaded(s: State, digit: u8) -> State
-    ensures { result ≡ loadedOf s digit }
+    ensures { result ≡ loaded_of s digit }
 {
-    let matrix = s.matrix;
     State {
-        matrix,
-        held: Held::Digit(digit),
+        held: Some(digit),
+        ..s
     }
 }
 
@@ -44,42 +33,25 @@ pub fn loaded(s: State, digit: u8) -> State
 pub fn given(s: State, matrix: [i64; 4]) -> State
     ensures { result ≡ given_of s matrix }
 {
-    let held = s.held;
-    State { matrix, held }
-}
-
-// A new X "and nothing is held".
-pub fn absorbed(_s: State, matrix: [i64; 4]) -> State
-    ensures { result ≡ absorbedOf _s matrix }
-{
-    State {
-        matrix,
-        held: Held::Nothing,
-    }
+    State { matrix, ..s }
 }
 
 // Whether the held digit, if there is one, is one of n.
-pub fn held_below(n: usize, held: Held) -> bool
+pub fn held_below(n: usize, held: Option<u8>) -> bool
     ensures { result ≡ held_digit? n held }
 {
-    match held {
-        Held::Nothing => true,
-        Held::Digit(d) => (d as usize) < n,
-    }
+    held.is_none_or(|d| (d as usize) < n)
 }
 
 // How many digits are held: none or one.
-pub fn held_count(held: Held) -> usize
+pub fn held_count(held: Option<u8>) -> usize
     ensures { result ≡ held_count held }
 {
-    match held {
-        Held::Nothing => 0,
-        Held::Digit(_) => 1,
-    }
+    held.is_some() as usize
 }
 
 // Why a run stopped; `end_number` gives the number.
-#[derive(Clone, Copy)]
+#[derive(Clone, Copy, Debug, PartialEq, Eq)]
 pub enum Stop {
     InputUsed,
     ListFull,
@@ -106,12 +78,5 @@ pub fn end_number(stop: Stop) -> u8
 pub fn refused(stop: Stop) -> bool
     ensures { result ≡ refused? stop }
 {
-    match stop {
-        Stop::InputUsed => false,
-        Stop::ListFull => false,
-        Stop::NoRoom => false,
-        Stop::NotADigit => false,
-        Stop::RangeLeft => false,
-        Stop::Refused(_) => true,
-    }
+    matches!(stop, Stop::Refused(_))
 }

@@ -3,7 +3,7 @@
 use Rattle.whole.proofs.Laws.{◌≡◌, List, ℕ, ◌≤◌, ℤ, pos, nat_abs, ◌<ℤ◌, gcd4, Within, within_le, near_mul, near_sub, le_trans}
 use native.Mathlib.Nat.{pos_of_dvd_of_pos, le_of_dvd}
 use Rattle.plane.proofs.Laws.{determinant_of, multiply_of, pseudoinverse_of, divisor_divides, divisor_divides_given, size_above, multiply_within, pseudoinverse_within}
-use Rattle.digits.proofs.Laws.{transformation_at}
+use Rattle.digits.proofs.Laws.{System, transformation}
 use Rattle.states.proofs.Laws.{State}
 use Rattle.steps.specs.Step.{DivisorNumber}
 use Rattle.steps.specs.Made.{Factors, WorksWith}
@@ -39,10 +39,10 @@ pub divisor_number : {m n f : List ℤ} → Within 100 f → Factors m n (nat_ab
 divisor_number small p = (pos_of_dvd_of_pos p.divides p.above, le_trans (le_of_dvd p.above p.divides) (determinant_size small))
 
 -- of what the functions of a step rely on
-pub absorb_factors : {columns : List ℤ} {s : State} {a : ℕ} → WorksWith columns s a →
-    Factors s.matrix (transformation_at columns a) (nat_abs (determinant_of (transformation_at columns a)))
+pub absorb_factors : {y : System} {s : State} {a : ℕ} → WorksWith y s a →
+    Factors s.matrix (transformation y a) (nat_abs (determinant_of (transformation y a)))
 absorb_factors t = right_factors t.in_range t.cancelled t.digit.in_range.numbers_f t.digit.above
 
-pub give_factors : {columns : List ℤ} {s : State} {a : ℕ} → WorksWith columns s a →
-    Factors (pseudoinverse_of (transformation_at columns a)) s.matrix (nat_abs (determinant_of (transformation_at columns a)))
+pub give_factors : {y : System} {s : State} {a : ℕ} → WorksWith y s a →
+    Factors (pseudoinverse_of (transformation y a)) s.matrix (nat_abs (determinant_of (transformation y a)))
 give_factors t = left_factors t.in_range t.cancelled t.digit.in_range.numbers_f t.digit.above

@@ -2,7 +2,7 @@
 use Rattle.whole.proofs.Laws.{◌≡◌, refl, ap, ◌⊎◌, inl, inr, Bool, true, false, cond, List, [], ◌∷◌, Option, none, some, ℕ, zero, suc, ◌+◌, ◌-◌, arith, ltb, ℤ, gcd4, within?}
 use Rattle.plane.proofs.Laws.{cancel_of}
 use Rattle.runs.proofs.Laws.{Supply, halts, Halting, longer, Plan, stop, go, digit, divisor, listed, gave, took_x, first, follow, spend}
-use Rattle.states.proofs.Laws.{Held, Nothing, Digit, State, Stop, ListFull, NotADigit, NoRoom, RangeLeft, held_count, end_number, loaded, given, absorbed}
+use Rattle.states.proofs.Laws.{Held, None, Some, State, Stop, ListFull, NotADigit, NoRoom, RangeLeft, held_count, end_number, loaded, given, absorbed}
 use Rattle.steps.specs.Step.{Setting, cancelled_plan, load_plan, chosen, given_matrix, absorbed_matrix, held_plan, plan_by, plan, plain}
 
 abbrev before : List ℕ → List ℕ → ℕ → ℕ → Supply
@@ -63,5 +63,5 @@ step_why y s r = by_held s.held refl
     by_choice h none e = cancelled_stops s r.x r.y (absorbed s) (absorbed_matrix y.input s h) e r.room r.list
 
     by_held : (h : Held) → s.held ≡ h → Halting (Why s (plan_by y s h) r) (follow (plan_by y s h) r)
-    by_held Nothing e = loads_stop s r.x r.y y.input.count r.room r.list
-    by_held (Digit h) e = by_choice h (chosen y s h) (ap held_count e)
+    by_held None e = loads_stop s r.x r.y y.input.count r.room r.list
+    by_held (Some h) e = by_choice h (chosen y s h) (ap held_count e)

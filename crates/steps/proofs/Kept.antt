@@ -8,7 +8,7 @@ use Rattle.digits.proofs.Laws.{interval, transformation}
 use Rattle.admission.proofs.Laws.{Digits}
 use Rattle.fitting.proofs.Laws.{fitting_exactly}
 use Rattle.runs.proofs.Laws.{Supply, Deed, nothing, and_then, Going, Each, took_x, gave, gave_by, listed, follow_each, each_test}
-use Rattle.states.proofs.Laws.{cancelled_rules, Held, Nothing, Digit, State, NotADigit, loaded, given, absorbed, HeldDigit, StateRules}
+use Rattle.states.proofs.Laws.{cancelled_rules, Held, None, Some, State, NotADigit, loaded, given, absorbed, HeldDigit, StateRules}
 use Rattle.steps.specs.Step.{Setting, DivisorNumber, chosen, given_matrix, absorbed_matrix, held_plan, plan_by, plan, plain}
 use Rattle.steps.proofs.Cancelled.{each_cancelled}
 use Rattle.steps.proofs.Factors.{right_factors, left_factors, divisor_number}
@@ -82,9 +82,9 @@ module _ (y : Setting) (inputs : Digits y.input) (outputs : Digits y.output) whe
 
   plan_keeps : (a : Deed) (s : State) (h : Held) → HeldDigit y.input.count h → Kept y a s → Each (KeepsBehind a) nothing (plan_by y s h)
   unfolding Each
-  plan_keeps a s Nothing d k = λ b. each_test (KeepsBehind a) (took_x b) (ltb b y.input.count) (loaded s b) NotADigit (λ w. adds a (took_x b) k tt tt
+  plan_keeps a s None d k = λ b. each_test (KeepsBehind a) (took_x b) (ltb b y.input.count) (loaded s b) NotADigit (λ w. adds a (took_x b) k tt tt
       (record { cancelled = k.state.cancelled; above = k.state.above; in_range = k.state.in_range; held_digit = ltb-true b y.input.count w }))
-  plan_keeps a s (Digit h) d k = held_keeps a s h (chosen y s h) d refl k
+  plan_keeps a s (Some h) d k = held_keeps a s h (chosen y s h) d refl k
 
   pub step_keeps : (a : Deed) (s : State) (r : Supply) → Kept y a s → Going (λ t d. Kept y (and_then a d) t) ((plain y).step s r)
   step_keeps a s r k = follow_each (λ t d. Kept y (and_then a d) t) (plan y s) (plan_keeps a s s.held k.state.held_digit k) r

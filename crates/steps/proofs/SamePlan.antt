@@ -6,20 +6,20 @@ use Rattle.plane.proofs.Laws.{multiply_of, pseudoinverse_of, image_of}
 use Rattle.digits.proofs.Laws.{SameDigits}
 use Rattle.fitting.proofs.Laws.{fitting_of, same_fitting}
 use Rattle.runs.proofs.Laws.{Supply, nothing, Going, Each, digit, took_x, gave, follow_each, each_test}
-use Rattle.states.proofs.Laws.{Held, Nothing, Digit, State, NoRoom, NotADigit, loaded, given, absorbed, HeldDigit}
+use Rattle.states.proofs.Laws.{Held, None, Some, State, NoRoom, NotADigit, loaded, given, absorbed, HeldDigit}
 use Rattle.steps.specs.Step.{Setting, cancelled_plan, load_plan, chosen, given_matrix, absorbed_matrix, held_plan, plan_by, plan, plain}
 use Rattle.steps.proofs.Cancelled.{each_cancelled}
 use Rattle.steps.proofs.Kept.{chosen_below}
 
 module _ (y z : Setting) (same_in : SameDigits y.input z.input) (same_out : SameDigits y.output z.output) (few_in : y.input.count ≤ 16) (few_out : y.output.count ≤ 16) where
-  same_held : (s : State) (h : ℕ) → HeldDigit y.input.count (Digit h) → (o : Option ℕ) → chosen y s h ≡ o → held_plan y s h o ≡ held_plan z s h o
+  same_held : (s : State) (h : ℕ) → HeldDigit y.input.count (Some h) → (o : Option ℕ) → chosen y s h ≡ o → held_plan y s h o ≡ held_plan z s h o
   same_held s h k none e = ap (λ (f : List ℤ). cancelled_plan (absorbed s) (multiply_of s.matrix f)) (same_in.transformations few_in h k)
   same_held s h k (some b) e =
       ap (λ (g : List ℤ). digit NoRoom b (cancelled_plan (given s) (multiply_of (pseudoinverse_of g) s.matrix))) (same_out.transformations few_out b (chosen_below y s h b e))
 
   by_held : (s : State) (h : Held) → HeldDigit y.input.count h → plan_by y s h ≡ plan_by z s h
-  by_held s Nothing k = ap (λ (n : ℕ). load_plan n s) same_in.count
-  by_held s (Digit h) k =
+  by_held s None k = ap (λ (n : ℕ). load_plan n s) same_in.count
+  by_held s (Some h) k =
       same_held s h k (chosen y s h) refl ∙
       ap (held_plan z s h) (ap (λ (w : List ℤ). fitting_of y.output (image_of s.matrix w)) (same_in.intervals few_in h k) ∙ same_fitting same_out few_out _)
 
@@ -29,8 +29,8 @@ module _ (y z : Setting) (same_in : SameDigits y.input z.input) (same_out : Same
 -- what is held stays a digit of the input system, whatever the systems are
 held_stays : (y : Setting) (s : State) (h : Held) → HeldDigit y.input.count s.held → Each (λ t d. HeldDigit y.input.count t.held) nothing (plan_by y s h)
 unfolding Each
-held_stays y s Nothing k = λ b. each_test (λ t d. HeldDigit y.input.count t.held) (took_x b) (ltb b y.input.count) (loaded s b) NotADigit (ltb-true b y.input.count)
-held_stays y s (Digit h) k = by (chosen y s h)
+held_stays y s None k = λ b. each_test (λ t d. HeldDigit y.input.count t.held) (took_x b) (ltb b y.input.count) (loaded s b) NotADigit (ltb-true b y.input.count)
+held_stays y s (Some h) k = by (chosen y s h)
   where
     by : (o : Option ℕ) → Each (λ t d. HeldDigit y.input.count t.held) nothing (held_plan y s h o)
     by (some b) = each_cancelled (given s) (given_matrix y.output s b) _ (gave b) (λ w. k)

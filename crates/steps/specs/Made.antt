@@ -8,7 +8,6 @@ use Rattle.whole.specs.Divisor.{gcd4}
 use Rattle.plane.specs.Plane.{determinant_of, multiply_of}
 use Rattle.digits.specs.System.{System, SameDigits, transformation, interval}
 use Rattle.digits.specs.BuiltIn.{table_of, rows_r, rows_b}
-use Rattle.digits.specs.Orders.{transformation_at, interval_at, DigitThere}
 use Rattle.admission.specs.Admitted.{Digit as IsDigit, Digits}
 use Rattle.runs.specs.Supply.{Supply}
 use Rattle.runs.specs.Machine.{Outcome, goes, halts}
@@ -55,28 +54,28 @@ pub record Factors (m n : List ℤ) (d : ℕ) : Type 0 where
   pub above : 0 < d
   pub divides : gcd4 (multiply_of m n) ∣ d
 
--- a digit whose numbers are there, and a state whose matrix it can be multiplied with
-pub record WorksWith (columns : List ℤ) (s : State) (a : ℕ) : Type 0 where
-  pub there : DigitThere columns a
-  pub digit : IsDigit (transformation_at columns a) (interval_at columns a)
+-- a digit that has a place in a system, and a state whose matrix it can be multiplied with
+pub record WorksWith (y : System) (s : State) (a : ℕ) : Type 0 where
+  pub there : a < 16
+  pub digit : IsDigit (transformation y a) (interval y a)
   pub cancelled : gcd4 s.matrix ≡ 1
   pub above : pos 0 <ℤ determinant_of s.matrix
   pub in_range : Within 1000000000 s.matrix
 
 -- where r is true, digit a is one of R
-pub record OfR (r : Bool) (columns : List ℤ) (a : ℕ) : Type 0 where
+pub record OfR (r : Bool) (y : System) (a : ℕ) : Type 0 where
   pub below : r ≡ true → a < 4
-  pub same : r ≡ true → transformation_at columns a ≡ transformation (table_of rows_r) a
+  pub same : r ≡ true → transformation y a ≡ transformation (table_of rows_r) a
 
 -- the digit that was found to fit, if one was, can be given out
-abbrev pub WorksWhere : Bool → List ℤ → State → Option ℕ → Type 0
-WorksWhere r columns s none = Unit {0}
-WorksWhere r columns s (some b) = (WorksWith columns s b) × (OfR r columns b)
+abbrev pub WorksWhere : Bool → System → State → Option ℕ → Type 0
+WorksWhere r y s none = Unit {0}
+WorksWhere r y s (some b) = (WorksWith y s b) × (OfR r y b)
 
 -- where r is true, the held digit h is R's, and the output system is R; where b is, that is B
-pub record HeldRecognised (r b : Bool) (columns : List ℤ) (h : ℕ) (output : System) : Type 0 where
-  pub digit : OfR r columns h
-  pub interval : r ≡ true → interval_at columns h ≡ interval (table_of rows_r) h
+pub record HeldRecognised (r b : Bool) (input : System) (h : ℕ) (output : System) : Type 0 where
+  pub digit : OfR r input h
+  pub interval : r ≡ true → interval input h ≡ interval (table_of rows_r) h
   pub output_r : r ≡ true → SameDigits output (table_of rows_r)
   pub output_b : b ≡ true → SameDigits output (table_of rows_b)
 

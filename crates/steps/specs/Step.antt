@@ -12,7 +12,7 @@ use Rattle.fitting.specs.FirstFit.{fitting_of}
 use Rattle.runs.specs.Supply.{Supply}
 use Rattle.runs.specs.Machine.{Machine}
 use Rattle.runs.specs.Plan.{Plan, stop, go, byte_x, digit, divisor, planned}
-use Rattle.states.specs.Types.{Held, Nothing, Digit, State, Stop, InputUsed, ListFull, NoRoom, NotADigit, RangeLeft}
+use Rattle.states.specs.Types.{Held, None, Some, State, Stop, InputUsed, ListFull, NoRoom, NotADigit, RangeLeft}
 use Rattle.states.specs.State.{loaded, given, absorbed, held_count}
 
 -- what a run is given and never changes
@@ -64,8 +64,8 @@ abbrev pub emit_plan : Setting → State → ℕ → Plan State Stop
 emit_plan y s h = held_plan y s h (chosen y s h)
 
 abbrev pub plan_by : Setting → State → Held → Plan State Stop
-plan_by y s Nothing = load_plan y.input.count s
-plan_by y s (Digit h) = emit_plan y s h
+plan_by y s None = load_plan y.input.count s
+plan_by y s (Some h) = emit_plan y s h
 
 abbrev pub plan : Setting → State → Plan State Stop
 plan y s = plan_by y s s.held

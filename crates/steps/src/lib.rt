@@ -6,16 +6,17 @@ ghost use Rattle.std.specs.Prelude.{◌≡◌, cond, List, ℕ, ◌-◌, drop};
 ghost use Rattle.whole.specs.Range.{within?};
 ghost use Rattle.whole.specs.Divisor.{gcd4};
 ghost use Rattle.plane.specs.Plane.{multiply_of, cancel_of};
-ghost use Rattle.digits.specs.Orders.{lent};
+ghost use Rattle.digits.specs.Orders.{system_of};
 ghost use Rattle.states.specs.Types.{RangeLeft};
 ghost use Rattle.steps.specs.Step.{one_word, load_plan, given_matrix, give_plan, absorbed_matrix, absorb_plan};
 ghost use Rattle.steps.specs.Made.{move, halt, Follows, Factors, WorksWith, OfR};
 
 use cancelling::Cancelled;
+use digits::System;
 use states::{State, Stop};
 
 // What one step does: where X is cancelled, by which divisor.
-#[derive(Clone, Copy)]
+#[derive(Clone, Copy, Debug, PartialEq, Eq)]
 pub enum Kind {
     Load(u8),
     Give(u8, u64),
@@ -23,7 +24,7 @@ pub enum Kind {
     Halt(Stop),
 }
 
-#[derive(Clone, Copy)]
+#[derive(Clone, Copy, Debug, PartialEq, Eq)]
 pub struct Move {
     pub kind: Kind,
     pub state: State,
@@ -36,10 +37,9 @@ pub fn load(count: usize, s: State, input: &[u8], i: usize) -> Move
     if i < input.len() {
         let b = input[i];
         if (b as usize) < count {
-            let t = states::loaded(s, b);
             return Move {
                 kind: Kind::Load(b),
-                state: t,
+                state: states::loaded(s, b),
             };
         }
         return Move {
@@ -57,8 +57,7 @@ pub fn load(count: usize, s: State, input: &[u8], i: usize) -> Move
 fn in_range(s: State, kind: Kind, t: State) -> Move
     ensures { result ≡ cond (within? 1000000000 t.matrix) (move kind t) (halt RangeLeft s) }
 {
-    let x = t.matrix;
-    if ranges::within_state(x) {
+    if ranges::within::<1000000000>(t.matrix) {
         return Move { kind, state: t };
     }
     Move {
@@ -76,43 +75,41 @@ fn product(m: [i64; 4], n: [i64; 4], d: u64) -> Cancelled
 }
 
 // "pseudoinverse(G_b)·X, cancelled". The determinant of a digit of R is 1: there is nothing to cancel.
-fn given_product(r: bool, columns: &[i16], s: State, b: u8) -> Cancelled
-    requires { (WorksWith columns.now s b) × (OfR r columns.now b) }
-    ensures { (result.divisor ≡ gcd4 (given_matrix (lent 0 columns.now) s b)) × (result.matrix ≡ cancel_of (given_matrix (lent 0 columns.now) s b)) }
+fn given_product(r: bool, outputs: &System, s: State, b: u8) -> Cancelled
+    requires { (WorksWith (system_of outputs.now) s b) × (OfR r (system_of outputs.now) b) }
+    ensures { (result.divisor ≡ gcd4 (given_matrix (system_of outputs.now) s b)) × (result.matrix ≡ cancel_of (given_matrix (system_of outputs.now) s b)) }
 {
-    let x = s.matrix;
     if r {
         return Cancelled {
             divisor: 1,
-            matrix: built_in_digits::given_r(x, b),
+            matrix: built_in_digits::given_r(s.matrix, b),
         };
     }
-    let g = digits::transformation(columns, b as usize);
+    let g = outputs.transformation(b as usize);
     let d = plane::determinant(g);
-    product(plane::pseudoinverse(g), x, d as u64)
+    product(plane::pseudoinverse(g), s.matrix, d as u64)
 }
 
 // "X·F_held, cancelled".
-fn absorbed_product(r: bool, columns: &[i16], s: State, h: u8) -> Cancelled
-    requires { (WorksWith columns.now s h) × (OfR r columns.now h) }
-    ensures { (result.divisor ≡ gcd4 (absorbed_matrix (lent 0 columns.now) s h)) × (result.matrix ≡ cancel_of (absorbed_matrix (lent 0 columns.now) s h)) }
+fn absorbed_product(r: bool, inputs: &System, s: State, h: u8) -> Cancelled
+    requires { (WorksWith (system_of inputs.now) s h) × (OfR r (system_of inputs.now) h) }
+    ensures { (result.divisor ≡ gcd4 (absorbed_matrix (system_of inputs.now) s h)) × (result.matrix ≡ cancel_of (absorbed_matrix (system_of inputs.now) s h)) }
 {
-    let x = s.matrix;
     if r {
         return Cancelled {
             divisor: 1,
-            matrix: built_in_digits::absorbed_r(x, h),
+            matrix: built_in_digits::absorbed_r(s.matrix, h),
         };
     }
-    let f = digits::transformation(columns, h as usize);
+    let f = inputs.transformation(h as usize);
     let d = plane::determinant(f);
-    product(x, f, d as u64)
+    product(s.matrix, f, d as u64)
 }
 
 // Line 4, its second half: the digit b is given out, if a place is free behind the o that are filled, and one in the list behind the p numbers that stand there.
 pub fn give(
     r: bool,
-    columns: &[i16],
+    outputs: &System,
     s: State,
     b: u8,
     o: usize,
@@ -120,8 +117,8 @@ pub fn give(
     p: usize,
     list: usize,
 ) -> Move
-    requires { (WorksWith columns.now s b) × (OfR r columns.now b) }
-    ensures { (bytes : List ℕ) → Follows (give_plan (lent 0 columns.now) s b) s (one_word bytes (room - o) (list - p)) result }
+    requires { (WorksWith (system_of outputs.now) s b) × (OfR r (system_of outputs.now) b) }
+    ensures { (bytes : List ℕ) → Follows (give_plan (system_of outputs.now) s b) s (one_word bytes (room - o) (list - p)) result }
 {
     if room <= o {
         return Move {
@@ -135,16 +132,14 @@ pub fn give(
             state: s,
         };
     }
-    let new = given_product(r, columns, s, b);
-    let matrix = new.matrix;
-    let t = states::given(s, matrix);
-    in_range(s, Kind::Give(b, new.divisor), t)
+    let new = given_product(r, outputs, s, b);
+    in_range(s, Kind::Give(b, new.divisor), states::given(s, new.matrix))
 }
 
 // Line 5: the held digit h is absorbed, if a place is free in the list.
-pub fn absorb(r: bool, columns: &[i16], s: State, h: u8, p: usize, list: usize) -> Move
-    requires { (WorksWith columns.now s h) × (OfR r columns.now h) }
-    ensures { (bytes : List ℕ) (room : ℕ) → Follows (absorb_plan (lent 0 columns.now) s h) s (one_word bytes room (list - p)) result }
+pub fn absorb(r: bool, inputs: &System, s: State, h: u8, p: usize, list: usize) -> Move
+    requires { (WorksWith (system_of inputs.now) s h) × (OfR r (system_of inputs.now) h) }
+    ensures { (bytes : List ℕ) (room : ℕ) → Follows (absorb_plan (system_of inputs.now) s h) s (one_word bytes room (list - p)) result }
 {
     if list <= p {
         return Move {
@@ -152,8 +147,6 @@ pub fn absorb(r: bool, columns: &[i16], s: State, h: u8, p: usize, list: usize) 
             state: s,
         };
     }
-    let new = absorbed_product(r, columns, s, h);
-    let matrix = new.matrix;
-    let t = states::absorbed(s, matrix);
-    in_range(s, Kind::Absorb(new.divisor), t)
+    let new = absorbed_product(r, inputs, s, h);
+    in_range(s, Kind::Absorb(new.divisor), states::opened(new.matrix))
 }

@@ -1,7 +1,7 @@
 -- How large the numbers get where a row is turned or reflected, and that there is something to cancel: each product with R or with the mirror doubles the bound.
-use Rattle.whole.proofs.Laws.{◌≡◌, refl, List, [], ◌∷◌, ℕ, zero, suc, ◌<◌, arith, lt_z_yes, ℤ, pos, Within, within?, within_says, near_quot, gcd4, gcd4_zero, back}
+use Rattle.whole.proofs.Laws.{◌≡◌, refl, List, [], ◌∷◌, ℕ, zero, suc, ◌<◌, arith, lt_z_yes, ℤ, pos, Within, within?, within_says, near_quot, gcd4, gcd4_zero}
 use Rattle.plane.proofs.Laws.{Pair, Point, DetAbove, multiply_of, pseudoinverse_of, determinant_of, multiply_within, det_above_multiply, det_above_pseudoinverse}
-use Rattle.symmetry.specs.Symmetry.{lowest, lowest_ends, rotation, conjugated, mirror}
+use Rattle.symmetry.specs.Symmetry.{lowest_ends, rotation, conjugated, mirror}
 
 -- ---- R and the mirror
 

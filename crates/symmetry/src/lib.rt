@@ -32,18 +32,18 @@ fn lowest_ends(w: [i64; 4]) -> [i64; 4]
     requires { (Within 200 w) × (Interval w) }
     ensures { result ≡ lowest_ends w }
 {
-    let left = cancelling::cancel([w[0], w[1], 0, 0]);
-    let right = cancelling::cancel([w[2], w[3], 0, 0]);
-    let x = left.matrix;
-    let y = right.matrix;
-    [x[0], x[1], y[0], y[1]]
+    let [x0, x1, y0, y1] = w;
+    let [x0, x1, ..] = cancelling::cancel([x0, x1, 0, 0]).matrix;
+    let [y0, y1, ..] = cancelling::cancel([y0, y1, 0, 0]).matrix;
+    [x0, x1, y0, y1]
 }
 
 // The ends of an interval changed over.
 fn changed_over(w: [i64; 4]) -> [i64; 4]
     ensures { result ≡ ends (right w) (left w) }
 {
-    [w[2], w[3], w[0], w[1]]
+    let [x0, x1, y0, y1] = w;
+    [y0, y1, x0, x1]
 }
 
 // "F of a+2 is R F_a R inverse", and "the intervals follow the same laws".
@@ -51,11 +51,10 @@ pub fn turn(row: [i16; 8]) -> [i16; 8]
     requires { Turnable row }
     ensures { result ≡ turned row }
 {
-    let f = product_of_three(ROTATION, row::four(row, 0), BACK);
-    let w = products::image(ROTATION, row::four(row, 4));
-    let cancelled = cancelling::cancel(f);
-    let lowest = cancelled.matrix;
-    row::joined(lowest, lowest_ends(w))
+    let (f, w) = row::parts(row);
+    let turned = cancelling::cancel(product_of_three(ROTATION, f, BACK));
+    let ends = lowest_ends(products::image(ROTATION, w));
+    row::joined(turned.matrix, ends)
 }
 
 // "F of 7−a at x is −F_a(−x)", and the interval by the same law, so that its right end becomes the left one.
@@ -63,7 +62,8 @@ pub fn reflect(row: [i16; 8]) -> [i16; 8]
     requires { SmallRow row }
     ensures { result ≡ reflected row }
 {
-    let f = product_of_three(MIRROR, row::four(row, 0), MIRROR);
-    let w = products::image(MIRROR, row::four(row, 4));
-    row::joined(f, changed_over(w))
+    let (f, w) = row::parts(row);
+    let mirrored = product_of_three(MIRROR, f, MIRROR);
+    let ends = changed_over(products::image(MIRROR, w));
+    row::joined(mirrored, ends)
 }

@@ -11,15 +11,18 @@ use test_input::Input;
 use test_output::Output;
 
 pub fn admission(output: &mut Output, s: System) {
-    test_output::byte(output, admission::refusal_number(admission::admit(s)));
+    let number = refusals::outcome_number(admission::admit(s));
+    test_output::each(output, &[number]);
 }
 
+// Behind a refusal no state is opened, and four zeros and no digit are printed.
 pub fn opening(output: &mut Output, m: [i64; 4]) {
-    let r = opening::open(m);
-    let v = r.opening;
-    let s = r.state;
-    test_output::byte(output, opening::opening_number(v));
-    test_output::state(output, s);
+    let (number, state) = match opening::open(m) {
+        Ok(state) => (0, state),
+        Err(refusal) => (refusal.number(), states::opened([0; 4])),
+    };
+    test_output::each(output, &[number]);
+    test_output::state(output, state);
 }
 
 // A system's rows turned into columns, and these turned back into rows of so many digits.
@@ -30,85 +33,60 @@ pub fn turned(
     digits: usize,
     back: &mut [i16],
 ) {
-    test_output::number(output, columns_call::columns(rows, columns) as u64);
-    test_output::numbers(output, columns);
-    test_output::number(output, columns_call::rows(digits, columns, back) as u64);
-    test_output::numbers(output, back);
+    let number = columns_call::columns(rows, columns);
+    test_output::each(output, &[number]);
+    test_output::list(output, columns);
+    let number = columns_call::rows(digits, columns, back);
+    test_output::each(output, &[number]);
+    test_output::list(output, back);
 }
 
-// A run. It hands the state on.
+// A run, which leaves its state in the place of the one that it began with.
 pub fn run(
     output: &mut Output,
     inputs: System,
     outputs: System,
-    s: State,
+    state: &mut State,
     word: &[u8],
     room: &mut [u8],
     list: &mut [u64],
-) -> State
-    ensures { (result ≡ (run_of (system_of inputs) (system_of outputs) s word.now room.old list.old).answer.state) ×
-        (room.new ≡ (run_of (system_of inputs) (system_of outputs) s word.now room.old list.old).output) ×
-        (list.new ≡ (run_of (system_of inputs) (system_of outputs) s word.now room.old list.old).divisors) }
+)
+    ensures { (state.new ≡ (run_of (system_of inputs) (system_of outputs) state.old word.now room.old list.old).answer.state) ×
+        (room.new ≡ (run_of (system_of inputs) (system_of outputs) state.old word.now room.old list.old).output) ×
+        (list.new ≡ (run_of (system_of inputs) (system_of outputs) state.old word.now room.old list.old).divisors) }
 {
-    let a = unary::run(inputs, outputs, s, word, room, list);
-    let t = a.state;
-    test_output::answer(output, a);
-    test_output::bytes(output, room);
+    let answer = unary::run(inputs, outputs, *state, word, room, list);
+    *state = answer.state;
+    test_output::answer(output, answer);
+    test_output::list(output, room);
     test_output::list(output, list);
-    t
 }
 
-// The second piece of a word, into the room behind the w digits of the first, with the list behind its l divisors. (No run counts more than there is room and place for; the
-// tests say it again, so that nothing has to be proved here.)
-fn rest(
-    output: &mut Output,
-    inputs: System,
-    outputs: System,
-    s: State,
-    word: &[u8],
-    room: &mut [u8],
-    w: usize,
-    list: &mut [u64],
-    l: usize,
-) -> State {
-    if room.len() < w {
-        return s;
-    }
-    if list.len() < l {
-        return s;
-    }
-    let a = unary::run(inputs, outputs, s, word, &mut room[w..], &mut list[l..]);
-    let t = a.state;
-    test_output::pieces(output, a);
-    test_output::bytes(output, room);
-    test_output::list(output, list);
-    t
-}
-
-// A word in two pieces, each a run of its own; the second is read here. The counts are not printed, so that every cut of a word has the same line.
+// A word in two pieces, each a run of its own; the second is read here, and runs into the room behind the digits of the first, with the list behind its divisors. The counts are
+// not printed, so that every cut of a word has the same line. (No run counts more than there is room and place for, which is tested here again, so that nothing has to be proved.)
 pub fn cut(
     input: &mut Input,
     output: &mut Output,
     inputs: System,
     outputs: System,
-    s: State,
+    state: &mut State,
     word: &[u8],
     room: &mut [u8],
     list: &mut [u64],
-) -> State {
-    let mut second = [0u8; 64];
-    let n = test_input::word(input, &mut second);
-    let a = unary::run(inputs, outputs, s, word, room, list);
-    let t = a.state;
-    rest(
-        output,
-        inputs,
-        outputs,
-        t,
-        &second[..n],
-        room,
-        a.written.0,
-        list,
-        a.listed.0,
-    )
+) {
+    let mut buffer = [0u8; 64];
+    let second = test_input::word(input, &mut buffer);
+    let first = unary::run(inputs, outputs, *state, word, room, list);
+    let (Some(room_left), Some(list_left)) = (
+        room.get_mut(first.written.0..),
+        list.get_mut(first.listed.0..),
+    ) else {
+        *state = first.state;
+        return;
+    };
+    let answer = unary::run(inputs, outputs, first.state, second, room_left, list_left);
+    *state = answer.state;
+    test_output::pieces(output, answer);
+    test_output::list(output, room);
+    test_output::list(output, list);
 }

@@ -3,94 +3,76 @@
 #![tactic(auto)]
 
 use states::State;
-use std::io;
-use test_input::Input;
+use std::io::{self, BufReader, BufWriter};
+use test_input::{Input, Number};
 use test_output::Output;
 
 // A run: two systems, a state, a word, a room as the bytes that stand there before, and a list as the numbers that do. (A byte says how many these are: 255 at most.)
-fn run(input: &mut Input, output: &mut Output, kind: u8, before: State) -> State {
+fn run(input: &mut Input, output: &mut Output, kind: u8, state: &mut State) {
     let inputs = test_input::system(input);
     let outputs = test_input::system(input);
-    let s = test_input::state(input, before);
+    *state = test_input::state(input, *state);
     let mut word = [0u8; 64];
-    let n = test_input::word(input, &mut word);
+    let word = test_input::word(input, &mut word);
     let mut room = [0u8; 64];
-    let m = test_input::word(input, &mut room);
+    let room = test_input::word(input, &mut room);
     let mut list = [0u64; 255];
-    let k = test_input::list(input, &mut list);
+    let places = u8::read(input) as usize;
+    let list = test_input::numbers(input, &mut list, places);
     if kind == b'c' {
-        return test_calls::cut(
-            input,
-            output,
-            inputs,
-            outputs,
-            s,
-            &word[..n],
-            &mut room[..m],
-            &mut list[..k],
-        );
+        test_calls::cut(input, output, inputs, outputs, state, word, room, list);
+    } else {
+        test_calls::run(output, inputs, outputs, state, word, room, list);
     }
-    test_calls::run(
-        output,
-        inputs,
-        outputs,
-        s,
-        &word[..n],
-        &mut room[..m],
-        &mut list[..k],
-    )
+}
+
+// As many numbers as two bytes before them say.
+fn counted<'a>(input: &mut Input, buffer: &'a mut [i16]) -> &'a mut [i16] {
+    let n = u16::read(input);
+    test_input::numbers(input, buffer, n as usize)
 }
 
 // Rows, the numbers that stand in the columns before, a count of digits, and those that stand in the rows that are written back.
 fn turned(input: &mut Input, output: &mut Output) {
     let mut rows = [0i16; 160];
-    let n = test_input::numbers(input, &mut rows);
+    let rows = counted(input, &mut rows);
     let mut columns = [0i16; 160];
-    let m = test_input::numbers(input, &mut columns);
-    let digits = test_input::eight(input) as usize;
+    let columns = counted(input, &mut columns);
+    let digits = u64::read(input) as usize;
     let mut back = [0i16; 160];
-    let k = test_input::numbers(input, &mut back);
-    test_calls::turned(
-        output,
-        &rows[..n],
-        &mut columns[..m],
-        digits,
-        &mut back[..k],
-    );
+    let back = counted(input, &mut back);
+    test_calls::turned(output, rows, columns, digits, back);
 }
 
-// A case of any kind, after the state that the case before left.
-fn case(input: &mut Input, output: &mut Output, kind: u8, before: State) -> State {
-    test_input::label(input, output);
+// A case of any kind, after the state that the case before left: its label, which is printed as it stands, and what was answered.
+fn case(input: &mut Input, output: &mut Output, kind: u8, state: &mut State) {
+    let mut label = [0u8; 64];
+    output.text(test_input::word(input, &mut label));
     match kind {
-        b'a' => {
-            test_calls::admission(output, test_input::system(input));
-            before
-        }
-        b'o' => {
-            test_calls::opening(output, test_input::matrix(input));
-            before
-        }
-        b't' => {
-            turned(input, output);
-            before
-        }
-        _ => run(input, output, kind, before),
+        b'a' => test_calls::admission(output, test_input::system(input)),
+        b'o' => test_calls::opening(output, test_input::matrix(input)),
+        b't' => turned(input, output),
+        _ => run(input, output, kind, state),
     }
+    output.text(b"\n");
 }
 
 // A proved loop has to end, and nothing says that an input does: there are as many turns as no input uses up.
-fn main(rt: HostRuntime) -> io::Result<()> {
-    let mut input = Input::new(rt.stdin());
-    let mut output = Output::new(rt.stdout());
-    let mut s = states::opened([0; 4]);
+fn cases(input: &mut Input, output: &mut Output) {
+    let mut state = states::opened([0; 4]);
     for _ in 0..u64::MAX {
-        let kind = test_input::byte(&mut input);
+        let kind = u8::read(input);
         if kind == 255 {
             break;
         }
-        s = case(&mut input, &mut output, kind, s);
-        test_output::text(&mut output, b"\n");
+        case(input, output, kind, &mut state);
     }
+}
+
+// What came before a failed read is printed.
+fn main(rt: HostRuntime) -> io::Result<()> {
+    let mut input = Input::new(BufReader::new(rt.alloc(), rt.stdin())?);
+    let mut output = Output::new(BufWriter::new(rt.alloc(), rt.stdout())?);
+    cases(&mut input, &mut output);
     output.finish().and(input.finish())
 }

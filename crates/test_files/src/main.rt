@@ -3,104 +3,78 @@
 // reads, a fourth line follows, of a run with that list.
 #![tactic(auto)]
 
-use jobs::{Job, Verdict};
-use std::io;
-use test_input::Input;
+use jobs::Job;
+use std::io::{self, BufReader, BufWriter};
+use test_input::{Input, Number};
 use test_output::Output;
-use unary::Answer;
 
-// Writes what is printed of a file, and answers whether no write has failed.
-fn answer(output: &mut Output, file: &[u8]) -> bool {
+// Writes what is printed of a file.
+fn answer(output: &mut Output, file: &[u8]) {
     let mut digits = [0u8; 8192];
     let mut text = [0u8; 40000];
     let n = printed::respond(file, &mut digits, &mut text);
-    test_output::text(output, &text[..n]);
-    output.is_good()
+    output.text(&text[..n]);
 }
 
-// The line of a run: its end, its counts and what it listed. (No run lists more than there is place for; the test says it again, so that nothing has to be proved here.)
-fn print_line(output: &mut Output, a: Answer, list: &[u64]) {
-    let end = a.stop;
-    let first = 0;
-    let listed = a.listed.0;
-    if list.len() < listed {
-        return;
-    }
-    test_output::decimal(output, states::end_number(end) as u64);
-    test_output::number(output, a.taken.0 as u64);
-    test_output::number(output, a.written.0 as u64);
-    test_output::number(output, listed as u64);
-    test_output::divisors(output, &list[first..listed]);
-    test_output::text(output, b"\n");
-}
-
-// Runs a job from its start, with as much room as the program gives, and this list. (The word lies inside a file that reads, which the two tests say again.)
+// Runs a job from its start, with as much room as the program gives, and this list, and writes the line of the run: its end, its counts and what it listed. (Of a file that reads
+// the matrix opens and the word lies inside, and no run lists more than there is place for; all this is tested here again, so that nothing has to be proved.)
 fn run_with(output: &mut Output, job: Job, file: &[u8], list: &mut [u64]) {
-    let inputs = job.input;
-    let outputs = job.output;
-    let matrix = job.matrix;
-    let start = opening::open(matrix);
-    let state = start.state;
-    let a = job.word.start;
-    let n = job.word.length;
-    if file.len() < a {
+    let (Ok(state), Some(rest)) = (opening::open(job.matrix), file.get(job.word.start..)) else {
         return;
-    }
-    if file.len() - a < n {
+    };
+    let Some(word) = rest.get(..job.word.length) else {
         return;
-    }
-    let e = a + n;
+    };
     let mut digits = [0u8; 8192];
-    let answer = unary::run(inputs, outputs, state, &file[a..e], &mut digits, list);
-    print_line(output, answer, list);
+    let answer = unary::run(job.input, job.output, state, word, &mut digits, list);
+    let Some(listed) = list.get(..answer.listed.0) else {
+        return;
+    };
+    output.number(states::end_number(answer.stop));
+    let counts = [answer.taken.0, answer.written.0, answer.listed.0];
+    test_output::each(output, &counts);
+    test_output::each(output, listed);
+    output.text(b"\n");
 }
 
-// The fourth line of a file, where it reads.
-fn answer_with(output: &mut Output, file: &[u8], list: &mut [u64]) {
-    let reading = jobs::read(file);
-    let verdict = reading.verdict;
-    let job = reading.job;
-    match verdict {
-        Verdict::Refused(_, _) => {}
-        Verdict::Reads => run_with(output, job, file, list),
-    }
-}
-
-// The same with so many places: the last ones of the buffer, or all where it has fewer.
+// The fourth line of a file, where it reads, with so many places: the last ones of the buffer, or all where it has fewer.
 fn answer_with_places(output: &mut Output, file: &[u8], places: usize) {
     let mut list = [0u64; 16384];
-    if 16384 < places {
-        answer_with(output, file, &mut list);
+    let from = list.len().saturating_sub(places);
+    let (Ok(job), Some(list)) = (jobs::read(file), list.get_mut(from..)) else {
         return;
-    }
-    let from = 16384 - places;
-    answer_with(output, file, &mut list[from..]);
+    };
+    run_with(output, job, file, list);
 }
 
-// Reads one file and the places of its list, writes what is printed of it, and answers whether to go on: no file is as long as is read where the input has ended.
-fn answer_one(input: &mut Input, output: &mut Output) -> bool {
-    let length = test_input::four(input) as usize;
-    if 65536 < length {
-        return false;
-    }
+// Reads one file of so many bytes and the places of its list, and writes what is printed of it.
+fn answer_one(input: &mut Input, output: &mut Output, length: usize) {
     let mut file = [0u8; 65536];
-    let got = test_input::bytes(input, &mut file, length);
-    let places = test_input::two(input) as usize;
-    if !answer(output, &file[..got]) {
-        return false;
-    }
-    answer_with_places(output, &file[..got], places);
-    true
+    let file = test_input::bytes(input, &mut file, length);
+    let places = u16::read(input) as usize;
+    answer(output, file);
+    answer_with_places(output, file, places);
 }
 
 // A proved loop has to end, and nothing says that an input does: there are as many turns as no run uses up.
-fn main(rt: HostRuntime) -> io::Result<()> {
-    let mut input = Input::new(rt.stdin());
-    let mut output = Output::new(rt.stdout());
+fn answer_all(input: &mut Input, output: &mut Output) {
     for _ in 0..u64::MAX {
-        if !answer_one(&mut input, &mut output) {
+        // No file is as long as is read where the input has ended.
+        let length = u32::read(input) as usize;
+        if 65536 < length {
+            break;
+        }
+        answer_one(input, output, length);
+        if !output.is_good() {
             break;
         }
     }
+}
+
+// What came before a failed read is printed.
+fn main(rt: HostRuntime) -> io::Result<()> {
+    let mut input = Input::new(BufReader::new(rt.alloc(), rt.stdin())?);
+    let mut output = Output::new(BufWriter::new(rt.alloc(), rt.stdout())?);
+    answer_all(&mut input, &mut output);
     output.finish().and(input.finish())
 }

@@ -4,234 +4,131 @@
 // with all that the first did not take, and one call with everything.
 #![tactic(auto)]
 
-ghost use Rattle.std.specs.Prelude.{◌≡◌, ◌≤◌, length, take};
-
 use digits::System;
-use std::io;
-use test_input::Input;
+use std::io::{self, BufReader, BufWriter};
+use test_input::{Input, Number};
 use test_output::Output;
 
 // A state: opened for an operation, or handed in.
-fn begin(input: &mut Input, state: &mut [i64]) {
-    match test_input::byte(input) {
+fn begin(input: &mut Input) -> [i64; 11] {
+    let mut state = [0i64; 11];
+    match u8::read(input) {
         b'+' => {
-            two_call::open_sum(state);
+            two_call::open_sum(&mut state);
         }
         b'-' => {
-            two_call::open_difference(state);
+            two_call::open_difference(&mut state);
         }
         b'*' => {
-            two_call::open_product(state);
+            two_call::open_product(&mut state);
         }
-        _ => {
-            test_input::signed_numbers(input, state);
-        }
+        _ => test_input::fill(input, &mut state),
     }
+    state
 }
 
-// As many bytes as two bytes before them say.
-fn word(input: &mut Input, buffer: &mut [u8]) -> usize
-    ensures { (result ≤ length buffer.new) × (result ≡ length (take result buffer.new)) }
-{
-    let n = test_input::two(input) as usize;
-    test_input::bytes(input, buffer, n)
-}
-
-// One call, and its line: end, counts, state, and every byte of the output afterwards.
-fn call(
-    out: &mut Output,
+// What a case's calls have in common: the two systems, and the state, which each call leaves for the next.
+#[derive(Drop)]
+struct Session {
     inputs: System,
     outputs: System,
-    state: &mut [i64],
-    xs: &[u8],
-    ys: &[u8],
-    output: &mut [u8],
-    counts: &mut [usize],
-) {
-    let in_columns = inputs.columns;
-    let out_columns = outputs.columns;
-    let number = two_call::run(
-        inputs.count,
-        &in_columns,
-        outputs.count,
-        &out_columns,
-        state,
-        xs,
-        ys,
-        output,
-        counts,
-    );
-    test_output::decimal(out, number as u64);
-    test_output::counts(out, counts);
-    test_output::signed_numbers(out, state);
-    test_output::bytes(out, output);
-    test_output::text(out, b"\n");
+    state: [i64; 11],
 }
 
-// The same into so much room, of bytes that are 238 before. (No case has more; the test says it again, so that nothing has to be proved here.)
-fn call_with(
-    out: &mut Output,
-    inputs: System,
-    outputs: System,
-    state: &mut [i64],
-    xs: &[u8],
-    ys: &[u8],
-    room: usize,
-    counts: &mut [usize],
-) {
-    let mut output = [238u8; 1024];
-    if 1024 < room {
-        return;
+impl Session {
+    // One call into so much room, of bytes that are 238 before, and its line: end, counts, state, and every byte of the output afterwards. It answers how many bytes of each word it
+    // took, and how many digits it wrote. (No case has more room; where it had, nothing would be called.)
+    fn call(&mut self, out: &mut Output, xs: &[u8], ys: &[u8], room: usize) -> [usize; 3] {
+        let mut output = [238u8; 1024];
+        let Some(output) = output.get_mut(..room) else {
+            return [0; 3];
+        };
+        let mut counts = [0usize; 3];
+        let number = two_call::run(
+            self.inputs.count,
+            &self.inputs.columns,
+            self.outputs.count,
+            &self.outputs.columns,
+            &mut self.state,
+            xs,
+            ys,
+            output,
+            &mut counts,
+        );
+        out.number(number);
+        test_output::each(out, &counts);
+        test_output::list(out, &self.state);
+        test_output::list(out, output);
+        out.text(b"\n");
+        counts
     }
-    let from = 1024 - room;
-    call(
-        out,
-        inputs,
-        outputs,
-        state,
-        xs,
-        ys,
-        &mut output[from..],
-        counts,
-    );
 }
 
-// What is not taken of a word behind the first so many bytes. (No call takes more than there are.)
-fn second(
-    out: &mut Output,
-    inputs: System,
-    outputs: System,
-    state: &mut [i64],
-    xs: &[u8],
-    i: usize,
-    ys: &[u8],
-    j: usize,
-    room: usize,
-) {
-    let mut counts = [0usize; 3];
-    if xs.len() < i {
-        return;
-    }
-    if ys.len() < j {
-        return;
-    }
-    call_with(
-        out,
-        inputs,
-        outputs,
-        state,
-        &xs[i..],
-        &ys[j..],
-        room,
-        &mut counts,
-    );
-}
-
-// The first call, with so many bytes of each word, and the second.
+// The first call, with so many bytes of each word, and the second, with all that the first did not take. (No call takes or writes more than there is, which is tested here again, so
+// that nothing has to be proved.)
 fn in_two(
+    session: &mut Session,
     out: &mut Output,
-    inputs: System,
-    outputs: System,
-    state: &mut [i64],
     xs: &[u8],
     i: usize,
     ys: &[u8],
     j: usize,
-    room: usize,
-    more: usize,
+    room: u16,
+    more: u16,
 ) {
-    let mut counts = [0usize; 3];
-    if xs.len() < i {
+    let (Some(first_xs), Some(first_ys)) = (xs.get(..i), ys.get(..j)) else {
         return;
-    }
-    if ys.len() < j {
+    };
+    let room = usize::from(room);
+    let [x, y, written] = session.call(out, first_xs, first_ys, room);
+    let (Some(left_xs), Some(left_ys), Some(left)) = (
+        xs.get(x..),
+        ys.get(y..),
+        room.checked_sub(written),
+    ) else {
         return;
-    }
-    call_with(
-        out,
-        inputs,
-        outputs,
-        state,
-        &xs[..i],
-        &ys[..j],
-        room,
-        &mut counts,
-    );
-    if 65536 < more {
-        return;
-    }
-    if 65536 < room {
-        return;
-    }
-    if room < counts[2] {
-        return;
-    }
-    second(
-        out,
-        inputs,
-        outputs,
-        state,
-        xs,
-        counts[0],
-        ys,
-        counts[1],
-        room - counts[2] + more,
-    );
+    };
+    session.call(out, left_xs, left_ys, left + usize::from(more));
 }
 
-// One case, and whether to go on: no case is as long as is read where the input has ended.
-fn answer_one(input: &mut Input, out: &mut Output) -> bool {
-    if 65536 < test_input::four(input) {
-        return false;
-    }
-    let mut state = [0i64; 11];
-    begin(input, &mut state);
-    let start = state;
+// One case: two calls, and one with everything.
+fn answer_one(input: &mut Input, out: &mut Output) {
+    let state = begin(input);
     let inputs = test_input::system(input);
     let outputs = test_input::system(input);
     let mut xs = [0u8; 512];
-    let n = word(input, &mut xs);
+    let xs = test_input::long_word(input, &mut xs);
     let mut ys = [0u8; 512];
-    let m = word(input, &mut ys);
-    let room = test_input::two(input) as usize;
-    let more = test_input::two(input) as usize;
-    let i = test_input::two(input) as usize;
-    let j = test_input::two(input) as usize;
-    in_two(
-        out,
+    let ys = test_input::long_word(input, &mut ys);
+    let room = u16::read(input);
+    let more = u16::read(input);
+    let i = u16::read(input) as usize;
+    let j = u16::read(input) as usize;
+    let mut session = Session {
         inputs,
         outputs,
-        &mut state,
-        &xs[..n],
-        i,
-        &ys[..m],
-        j,
-        room,
-        more,
-    );
-    let mut again = start;
-    second(
-        out,
-        inputs,
-        outputs,
-        &mut again,
-        &xs[..n],
-        0,
-        &ys[..m],
-        0,
-        room + more,
-    );
-    true
+        state,
+    };
+    in_two(&mut session, out, xs, i, ys, j, room, more);
+    session.state = state;
+    session.call(out, xs, ys, usize::from(room) + usize::from(more));
 }
 
 // A proved loop has to end, and nothing says that an input does: there are as many turns as no run uses up.
-fn main(rt: HostRuntime) -> io::Result<()> {
-    let mut input = Input::new(rt.stdin());
-    let mut out = Output::new(rt.stdout());
+fn answer_all(input: &mut Input, out: &mut Output) {
     for _ in 0..u64::MAX {
-        if !answer_one(&mut input, &mut out) {
+        // No case is as long as is read where the input has ended.
+        if 65536 < u32::read(input) {
             break;
         }
+        answer_one(input, out);
     }
+}
+
+// What came before a failed read is printed.
+fn main(rt: HostRuntime) -> io::Result<()> {
+    let mut input = Input::new(BufReader::new(rt.alloc(), rt.stdin())?);
+    let mut out = Output::new(BufWriter::new(rt.alloc(), rt.stdout())?);
+    answer_all(&mut input, &mut out);
     out.finish().and(input.finish())
 }

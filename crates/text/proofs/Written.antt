@@ -1,5 +1,5 @@
 -- The laws of texts that are written into a buffer.
-use Rattle.whole.proofs.Laws.{◌≡◌, sym, ap, ap₂, ◌∙◌, subst, List, [], ◌∷◌, ◌++◌, ℕ, suc, ◌+◌, ◌≤◌, ◌<◌, le_trans, add-one, arith, length, get_or, take, drop, set, length-append, sets, take-suc, length-take-le, written}
+use Rattle.whole.proofs.Laws.{◌≡◌, sym, ap, ap₂, ◌∙◌, subst, List, [], ◌∷◌, ◌++◌, ℕ, suc, ◌+◌, ◌≤◌, le_trans, arith, length, drop, set, length-append, sets, written}
 use lib.Seq.{sets-eq}
 use Rattle.text.specs.Wrote.{Wrote}
 
@@ -30,13 +30,6 @@ from_front {old} {s} p h = p.bytes ∙ sets-eq s old 0 (omega (arith, p.few)) �
 
 pub over_front : {old s new : List ℕ} {j r : ℕ} → Wrote old 0 s j new r → j ≤ length old → new ≡ written s old
 over_front {old} {s} p h = let e : 0 + length s ≡ length s = omega arith in from_front p h ∙ ap (λ (k : ℕ). s ++ drop k old) (p.place ∙ e)
-
--- ---- byte by byte: one byte more of a text
-
-pub byte_more : (old text : List ℕ) (at i : ℕ) → i < length text → sets old at (take (i + 1) text) ≡ set (sets old at (take i text)) (at + i) (get_or text i 0)
-byte_more old text at i h =
-    rw (add-one i) (ap (sets old at) (take-suc text i 0 h) ∙ sets_sets (take i text) (get_or text i 0 ∷ []) old at ∙
-    ap (λ (k : ℕ). set (sets old at (take i text)) (at + k) (get_or text i 0)) (length-take-le i text (omega arith)))
 
 -- ---- field by field: what is left of a text; with it, the whole is written
 

@@ -1,5 +1,6 @@
 // Text in a buffer, written forward: each function writes from a place `at` on and hands back the place behind what it wrote. Each asks for
 // room and says how much it takes at most.
+// The buffer and the place stay two parameters: a struct that held both would hold a lent buffer, and each contract would speak of that struct's two ends in place of the list.
 #![tactic(auto)]
 
 ghost use Rattle.std.specs.Prelude.{[], ◌∷◌, ◌++◌, map, ◌+◌, ◌*◌, ◌≤◌, length};
@@ -21,20 +22,17 @@ pub fn put_text(out: &mut [u8], at: usize, text: &[u8]) -> usize
     requires { at + length text.now ≤ length out.old }
     ensures { Wrote out.old at text.now (length text.now) out.new result }
 {
-    let mut i = 0;
-    while i < text.len() {
-        out[at + i] = text[i];
-        i += 1;
-    }
-    at + i
+    let end = at + text.len();
+    out[at..end].copy_from_slice(text);
+    end
 }
 
-// A number in decimal: what stands in front of its last digit, then that digit.
+// A number in decimal: what stands in front of its last digit, then that digit. (No `write!`: it would need a writer that holds the buffer, as above.)
 fn put_number(out: &mut [u8], at: usize, n: u64) -> usize
     requires { at + 20 ≤ length out.old }
     ensures { Wrote out.old at (decimal n) 20 out.new result }
 {
-    let digit = 48 + (n % 10) as u8;
+    let digit = b'0' + (n % 10) as u8;
     if n < 10 {
         return put(out, at, digit);
     }
@@ -56,7 +54,7 @@ pub fn put_signed(out: &mut [u8], at: usize, z: i64, behind: u8) -> usize
     requires { at + 22 ≤ length out.old }
     ensures { Wrote out.old at (signed_text z ++ (behind ∷ [])) 22 out.new result }
 {
-    let n = whole::magnitude(z);
+    let n = z.unsigned_abs();
     if z < 0 {
         let p = put(out, at, b'-');
         return put_field(out, p, n, behind);
@@ -69,15 +67,12 @@ pub fn put_line(out: &mut [u8], at: usize, bytes: &[u8]) -> usize
     requires { at + (21 + 4 * length bytes.now) ≤ length out.old }
     ensures { Wrote out.old at (line_of (map decimal bytes.now)) (1 + 4 * length bytes.now) out.new result }
 {
-    if bytes.len() == 0 {
+    let Some((last, front)) = bytes.split_last() else {
         return put(out, at, b'\n');
-    }
-    let last = bytes.len() - 1;
+    };
     let mut p = at;
-    let mut i = 0;
-    while i < last {
-        p = put_field(out, p, bytes[i] as u64, b' ');
-        i += 1;
+    for byte in front {
+        p = put_field(out, p, *byte as u64, b' ');
     }
-    put_field(out, p, bytes[i] as u64, b'\n')
+    put_field(out, p, *last as u64, b'\n')
 }

@@ -1,6 +1,6 @@
 -- What a plug-in keeps between two calls is what the library would have kept: the eleven numbers of a state are read as that state. So the theorems on sessions over two
 -- words (crate `two_meaning`) speak of a plug-in's calls. And an eleventh number that is neither 0 nor 1 is refused, whatever the other ten are.
-use Rattle.whole.proofs.Laws.{◌≡◌, refl, Bool, true, false, ◌&&◌, List, ℕ, ◌≤◌, arith, ℤ, pos, at, length, le-ltb}
+use Rattle.whole.proofs.Laws.{◌≡◌, refl, Bool, true, false, ◌&&◌, List, ℕ, ◌≤◌, ℤ, pos, at, length, le-ltb}
 use Rattle.plane.proofs.Laws.{entries}
 use Rattle.bilinear.proofs.Laws.{form, lowest_form?, within_form?}
 use Rattle.states.proofs.Laws.{held_digit?}

@@ -5,7 +5,7 @@ use Rattle.std.specs.Int.Signed.{le_z, lt_z}
 use Rattle.whole.specs.Range.{at}
 use Rattle.plane.specs.Scale.{entries}
 use Rattle.bilinear.specs.Form.{form}
-use Rattle.states.specs.Types.{Held, Digit, Stop}
+use Rattle.states.specs.Types.{Held, Some, Stop}
 use Rattle.states.specs.State.{refused?}
 use Rattle.numbers.specs.Numbers.{held_number, held_from}
 use Rattle.two_states.specs.Types.{Turn, OfX, OfY, TwoState}
@@ -27,7 +27,7 @@ turn? z = le_z (pos 0) z && le_z z (pos 1)
 
 -- "A turn that is neither 0 nor 1 is 12": such a state is read as one that holds, of x, a digit that no system has
 abbrev pub held_by : ℤ → Held → Held
-held_by z h = cond (turn? z) h (Digit 255)
+held_by z h = cond (turn? z) h (Some 255)
 
 unfoldable pub two_from : List ℤ → TwoState
 two_from l = record {

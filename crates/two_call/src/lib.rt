@@ -2,7 +2,7 @@
 // `sled_open_difference`, `sled_open_product` and `sled_run_two` (crate `plugin`) are these for C. A state is eleven numbers: the eight, the held digits or −1, and the turn.
 #![tactic(auto)]
 
-ghost use Rattle.std.specs.Prelude.{◌≡◌, ◌&&◌, [], ◌∷◌, ◌++◌, eqb, length, drop};
+ghost use Rattle.std.specs.Prelude.{◌≡◌, [], ◌∷◌, ◌++◌, length, drop};
 ghost use Rattle.plane.specs.Scale.{entries};
 ghost use Rattle.states.specs.State.{end_number};
 ghost use Rattle.numbers.specs.Numbers.{lent_system, wrote};
@@ -13,7 +13,6 @@ ghost use Rattle.two_call.specs.TwoCall.{two_opened, after_two, two_call_of};
 use bilinear::Form;
 use binary::TwoAnswer;
 use numbers::WRONG_LENGTH;
-use states::Held;
 use two_states::{Turn, TwoState};
 
 // ---- a state, as eleven numbers
@@ -22,40 +21,34 @@ use two_states::{Turn, TwoState};
 fn turn_known(z: i64) -> bool
     ensures { result ≡ turn? z }
 {
-    (0 <= z) & (z <= 1)
+    matches!(z, 0 | 1)
 }
 
-// The turn that a number stands for.
+// Whose turn a number stands for: y's above 0, else x's.
 fn turn_from(z: i64) -> Turn
     ensures { result ≡ turn_from z }
 {
-    if 0 < z {
-        return Turn::OfY;
-    }
-    Turn::OfX
+    if 0 < z { Turn::OfY } else { Turn::OfX }
 }
 
-// The state that eleven numbers stand for.
+// The state that eleven numbers stand for. (A turn that is none is read as a held digit that no system has, and its sign says whose it is: specs/TwoNumbers.antt. So it is no `Option`.)
 fn state_from(eleven: &[i64]) -> TwoState
     requires { length eleven.now ≡ 11 }
     ensures { result ≡ two_from eleven.now }
 {
-    let form = Form {
-        numerator: numbers::matrix_from(eleven),
-        denominator: numbers::matrix_from(&eleven[4..]),
-    };
-    let y = numbers::held_from(eleven[9]);
-    let turn = turn_from(eleven[10]);
-    if !turn_known(eleven[10]) {
-        return TwoState {
-            form,
-            x: Held::Digit(255),
-            y,
-            turn,
-        };
+    TwoState {
+        form: Form {
+            numerator: numbers::matrix_from(eleven),
+            denominator: numbers::matrix_from(&eleven[4..]),
+        },
+        x: if turn_known(eleven[10]) {
+            numbers::held_from(eleven[8])
+        } else {
+            Some(255)
+        },
+        y: numbers::held_from(eleven[9]),
+        turn: turn_from(eleven[10]),
     }
-    let x = numbers::held_from(eleven[8]);
-    TwoState { form, x, y, turn }
 }
 
 fn turn_number(turn: Turn) -> i64
@@ -72,10 +65,8 @@ fn put_form(form: Form, eleven: &mut [i64])
     requires { length eleven.old ≡ 11 }
     ensures { eleven.new ≡ entries form.numerator ++ entries form.denominator ++ drop 8 eleven.old }
 {
-    let over = form.numerator;
-    let under = form.denominator;
-    numbers::put_matrix(over, eleven);
-    numbers::put_matrix(under, &mut eleven[4..]);
+    numbers::put_matrix(form.numerator, eleven);
+    numbers::put_matrix(form.denominator, &mut eleven[4..]);
 }
 
 // A state written as eleven numbers.
@@ -83,14 +74,10 @@ fn put_state(s: TwoState, eleven: &mut [i64])
     requires { length eleven.old ≡ 11 }
     ensures { eleven.new ≡ two_numbers s }
 {
-    let form = s.form;
-    let x = s.x;
-    let y = s.y;
-    let turn = s.turn;
-    put_form(form, eleven);
-    eleven[8] = numbers::held_number(x);
-    eleven[9] = numbers::held_number(y);
-    eleven[10] = turn_number(turn);
+    put_form(s.form, eleven);
+    eleven[8] = numbers::held_number(s.x);
+    eleven[9] = numbers::held_number(s.y);
+    eleven[10] = turn_number(s.turn);
 }
 
 // ---- the calls
@@ -127,29 +114,16 @@ pub fn open_product(state: &mut [i64]) -> u32
     hand_out(two_states::open_product(), state)
 }
 
-// Whether the lengths are right of what a run is lent: the columns of two systems, a state, and three counts.
-fn run_lengths(in_columns: usize, out_columns: usize, state: usize, counts: usize) -> bool
-    ensures { result ≡ (eqb in_columns 128 && eqb out_columns 128 && eqb state 11 && eqb counts 3) }
-{
-    (in_columns == 128) & (out_columns == 128) & (state == 11) & (counts == 3)
-}
-
 // An answer: its number; the three counts, taken of x, taken of y and written; and the state, unless the run was refused.
 fn put_answer(a: TwoAnswer, state: &mut [i64], counts: &mut [usize]) -> u32
     requires { (length state.old ≡ 11) × (length counts.old ≡ 3) }
     ensures { (result ≡ end_number a.stop) × (state.new ≡ two_after a.stop a.state state.old) × (counts.new ≡ a.x.0 ∷ a.y.0 ∷ a.written.0 ∷ []) }
 {
-    let stop = a.stop;
-    let s = a.state;
-    counts[0] = a.x.0;
-    counts[1] = a.y.0;
-    counts[2] = a.written.0;
-    let number = states::end_number(stop) as u32;
-    if states::refused(stop) {
-        return number;
+    counts.copy_from_slice(&[a.x.0, a.y.0, a.written.0]);
+    if !states::refused(a.stop) {
+        put_state(a.state, state);
     }
-    put_state(s, state);
-    number
+    u32::from(states::end_number(a.stop))
 }
 
 // Runs: takes bytes of the two words and writes digits to the output until a step stops. Answers why; the state and the three counts, taken of x, taken of y and written, are written back.
@@ -167,24 +141,15 @@ pub fn run(
     ensures { after_two result state.new output.new counts.new ≡
         two_call_of (lent_system in_digits in_columns.now) (lent_system out_digits out_columns.now) xs.now ys.now state.old output.old counts.old }
 {
-    if !run_lengths(
-        in_columns.len(),
-        out_columns.len(),
-        state.len(),
-        counts.len(),
-    ) {
+    let (Some(inputs), Some(outputs)) = (
+        numbers::system_from(in_digits, in_columns),
+        numbers::system_from(out_digits, out_columns),
+    ) else {
+        return WRONG_LENGTH;
+    };
+    if state.len() != 11 || counts.len() != 3 {
         return WRONG_LENGTH;
     }
-    let s = state_from(state);
-    let a = binary::run_lent(
-        in_digits,
-        in_columns,
-        out_digits,
-        out_columns,
-        s,
-        xs,
-        ys,
-        output,
-    );
+    let a = binary::run_lent(&inputs, &outputs, state_from(state), xs, ys, output);
     put_answer(a, state, counts)
 }

@@ -1,28 +1,17 @@
 -- The sentences of demand 3 for two words, read off what is meant (`TwoMeant`, TwoMoments).
 -- There is one list of absorbed digits of each word and no other, since the held one is known and went in last. The product's equation is the first sentence; and forms that
 -- are equal up to a positive scale make the same point of two points, which is the second: a product of matrices, applied, is the number named.
-use Rattle.whole.proofs.Laws.{◌≡◌, sym, ◌∙◌, ap, subst, List, ◌++◌, ℕ}
+use Rattle.whole.proofs.Laws.{sym, ◌∙◌, ap, subst, List, ℕ}
 use Rattle.plane.proofs.Laws.{Pair, Point, SamePoint, apply, point_back, point_same, same_sym}
 use Rattle.bilinear.proofs.Laws.{Form, apply_two, into_x, times_form, apply_into_x, apply_into_y, apply_times}
 use Rattle.digits.proofs.Laws.{System}
 use Rattle.runs.proofs.Laws.{Deed}
-use Rattle.states.proofs.Laws.{Held}
 use Rattle.steps.proofs.Laws.{setting}
 use Rattle.two_states.proofs.Laws.{TwoState}
-use Rattle.meaning.proofs.Laws.{named_from, product_of, held_digits, OfTheAbsorbed, product_names}
-use mathlib.Core.List.{append_cancel_right}
+use Rattle.meaning.proofs.Laws.{named_from, product_of, product_names, the_absorbed}
 use Rattle.two_meaning.specs.TwoSession.{OfBothAbsorbed, TwoProductHolds, TwoNamedHolds, TwoNumbersHold}
 use Rattle.two_meaning.proofs.UpToScale.{up_same}
 use Rattle.two_meaning.proofs.TwoMoments.{TwoMeantBy}
-
--- the absorbed digits of a word: there is no other list
-the_absorbed : (absorbed : List ℕ) {bytes : List ℕ} (h : Held) {Claim : List ℕ → Type 0} → absorbed ++ held_digits h ≡ bytes → Claim absorbed → OfTheAbsorbed bytes h Claim
-the_absorbed absorbed h e c = record {
-  absorbed = absorbed;
-  with_the_held = e;
-  no_other = λ other f. append_cancel_right other absorbed (held_digits h) (f ∙ sym e);
-  holds = c;
-}
 
 module _ {a b : System} {op : Form} (done : Deed) {s : TwoState} (h : TwoMeantBy (setting a b) op done s) where
   both_absorbed : {Claim : List ℕ → List ℕ → Type 0} → Claim h.absorbed_x_lem h.absorbed_y_lem → OfBothAbsorbed done s Claim

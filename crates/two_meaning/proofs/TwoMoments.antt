@@ -14,7 +14,7 @@ use Rattle.digits.proofs.Laws.{transformation, interval}
 use Rattle.admission.proofs.Laws.{Digits}
 use Rattle.giving.proofs.Laws.{images_of, all_coefficients, one_sided?, some_nought?, may_give?, given_says, giving_exactly}
 use Rattle.runs.proofs.Laws.{Supply, Deed, and_then, Going}
-use Rattle.states.proofs.Laws.{Held, Nothing, Digit}
+use Rattle.states.proofs.Laws.{Held, None, Some}
 use Rattle.steps.proofs.Laws.{Setting}
 use Rattle.two_states.proofs.Laws.{TwoState, TwoRules, loaded_x, loaded_y, given_two, absorbed_x, absorbed_y}
 use Rattle.two_steps.proofs.Laws.{choice, pairs, behind_give, behind_x, behind_y, chosen_below, held_below, step_goes}
@@ -49,18 +49,18 @@ meant_as {y} {op} {xs} {xs'} {ys} {ys'} {out} {out'} {s} e f g h =
 -- ---- the bytes that went in, of one word
 
 -- the byte a is loaded behind the absorbed digits, of a word of which nothing was held
-loaded_behind : (ax : List ℕ) {h : Held} {xs : List ℕ} (a : ℕ) → h ≡ Nothing → ax ++ held_digits h ≡ xs → ax ++ a ∷ [] ≡ xs ++ a ∷ []
+loaded_behind : (ax : List ℕ) {h : Held} {xs : List ℕ} (a : ℕ) → h ≡ None → ax ++ held_digits h ≡ xs → ax ++ a ∷ [] ≡ xs ++ a ∷ []
 loaded_behind ax a free e = ap (λ (l : List ℕ). l ++ a ∷ []) (sym (append-nil ax) ∙ ap (λ (h : Held). ax ++ held_digits h) (sym free) ∙ e)
 
 -- the held digit a becomes the last absorbed one
-absorbed_last : (ax : List ℕ) {h : Held} {xs : List ℕ} (a : ℕ) → h ≡ Digit a → ax ++ held_digits h ≡ xs → (ax ++ a ∷ []) ++ [] ≡ xs
+absorbed_last : (ax : List ℕ) {h : Held} {xs : List ℕ} (a : ℕ) → h ≡ Some a → ax ++ held_digits h ≡ xs → (ax ++ a ∷ []) ++ [] ≡ xs
 absorbed_last ax a holds e = append-nil (ax ++ a ∷ []) ∙ ap (λ (h : Held). ax ++ held_digits h) (sym holds) ∙ e
 
 -- ---- each kind of step
 
 module _ {y : Setting} {op : Form} (inputs : Digits y.input) (outputs : Digits y.output) {s : TwoState} (rules : TwoRules y.input.count s) where
   module _ {xs ys out : List ℕ} (h : TwoMeant y op xs ys out s) where
-    loads_x : (a : ℕ) → s.x ≡ Nothing → TwoMeant y op (xs ++ a ∷ []) ys out (loaded_x s a)
+    loads_x : (a : ℕ) → s.x ≡ None → TwoMeant y op (xs ++ a ∷ []) ys out (loaded_x s a)
     loads_x a free = record {
       absorbed_x_lem = h.absorbed_x_lem;
       absorbed_y_lem = h.absorbed_y_lem;
@@ -70,7 +70,7 @@ module _ {y : Setting} {op : Form} (inputs : Digits y.input) (outputs : Digits y
       intervals = λ r t x hx. h.intervals r t x (subst (λ (d : Held). HeldInItsInterval y.input d r) (sym free) tt);
     }
 
-    loads_y : (b : ℕ) → s.y ≡ Nothing → TwoMeant y op xs (ys ++ b ∷ []) out (loaded_y s b)
+    loads_y : (b : ℕ) → s.y ≡ None → TwoMeant y op xs (ys ++ b ∷ []) out (loaded_y s b)
     loads_y b free = record {
       absorbed_x_lem = h.absorbed_x_lem;
       absorbed_y_lem = h.absorbed_y_lem;
@@ -80,7 +80,7 @@ module _ {y : Setting} {op : Form} (inputs : Digits y.input) (outputs : Digits y
       intervals = λ r t x hx z hy. h.intervals r t x hx z (subst (λ (d : Held). HeldInItsInterval y.input d t) (sym free) tt);
     }
 
-    absorbs_x : (a : ℕ) → s.x ≡ Digit a → TwoMeant y op xs ys out (absorbed_x s (behind_x y s a))
+    absorbs_x : (a : ℕ) → s.x ≡ Some a → TwoMeant y op xs ys out (absorbed_x s (behind_x y s a))
     absorbs_x a holds =
         let f = transformation y.input a in
         let back = up_cancelled (into_x s.form f) (into_x_above s.form f rules.cancelled (inputs a (held_below rules.held_x holds)).above) in
@@ -97,7 +97,7 @@ module _ {y : Setting} {op : Form} (inputs : Digits y.input) (outputs : Digits y
               (h.intervals (apply f r) t before.0 (subst (λ (d : Held). HeldInItsInterval y.input d (apply f r)) (sym holds) before.1) z hy);
         }
 
-    absorbs_y : (b : ℕ) → s.y ≡ Digit b → TwoMeant y op xs ys out (absorbed_y s (behind_y y s b))
+    absorbs_y : (b : ℕ) → s.y ≡ Some b → TwoMeant y op xs ys out (absorbed_y s (behind_y y s b))
     absorbs_y b holds =
         let f = transformation y.input b in
         let back = up_cancelled (into_y s.form f) (into_y_above s.form f rules.cancelled (inputs b (held_below rules.held_y holds)).above) in
@@ -114,7 +114,7 @@ module _ {y : Setting} {op : Form} (inputs : Digits y.input) (outputs : Digits y
               (h.intervals r (apply f t) x hx before.0 (subst (λ (d : Held). HeldInItsInterval y.input d (apply f t)) (sym holds) before.1));
         }
 
-    module _ (a b c : ℕ) (holds-x : s.x ≡ Digit a) (holds-y : s.y ≡ Digit b) (chosen : choice y s a b ≡ some c) where
+    module _ (a b c : ℕ) (holds-x : s.x ≡ Some a) (holds-y : s.y ≡ Some b) (chosen : choice y s a b ≡ some c) where
       -- X(r, t) lies in the closed interval of the digit that is chosen
       closed_chosen : (r t : Pair) → Closed (interval y.input a) r → Closed (interval y.input b) t → Closed (interval y.output c) (apply_two s.form r t)
       unfolding may_give?

@@ -7,8 +7,8 @@
 -- x − x on R, for the word 0 1 0 1 .. of twelve digits. All of it is absorbed but the last digit of y, and nothing is given out: 0 parts two digits of R, and numbers on both
 -- sides of it are still possible. X makes of the rests the 0 that it has to be, 0/142129.
 -- Then what the theorems on sessions say of the first: the product's eight numbers, up to a positive scale, and the number that is named.
-use Rattle.whole.proofs.Laws.{◌≡◌, refl, ap, List, [], ◌∷◌, ◌++◌, ℕ, suc, ◌+◌, ◌*◌, replicate, ◌<◌, arith, ℤ, pos, nat_abs, at, up<, gcd_by, gcd, gcd4, first, unless_refused, within?}
-use Rattle.plane.proofs.Laws.{Pair, Point, SamePoint, determinant_of, pseudoinverse_of, apply, multiply_of, image_of, cancel_of, scale_of, scale_pair, above_not_0, same_point}
+use Rattle.whole.proofs.Laws.{◌≡◌, refl, ap, List, [], ◌∷◌, ◌++◌, ℕ, ◌+◌, ◌*◌, replicate, ◌<◌, arith, ℤ, pos, nat_abs, at, up<, gcd_by, gcd, gcd4, first, unless_refused, within?}
+use Rattle.plane.proofs.Laws.{Pair, SamePoint, determinant_of, pseudoinverse_of, apply, multiply_of, image_of, cancel_of, scale_of, scale_pair, above_not_0, same_point}
 use Rattle.inclusion.proofs.Laws.{closed?, same?, included?}
 use Rattle.digits.proofs.Laws.{System, minus, transformation_by, interval_by, rows_in, rows_b, stored}
 use Rattle.expanding.proofs.Laws.{form_of, expands?}
@@ -16,11 +16,11 @@ use Rattle.admission.proofs.Laws.{row_verdict, rows_verdict, admission_of, d_adm
 use Rattle.bilinear.proofs.Laws.{Form, form, sum_form, difference_form, product_form, on_two, apply_two, into_x, into_y, times_form, gcd8, cancel_form}
 use Rattle.giving.proofs.Laws.{images_of, all_coefficients, may_give?, giving_of}
 use Rattle.runs.proofs.Laws.{follow, run_by, run, judged_run}
-use Rattle.states.proofs.Laws.{Nothing, Digit, InputUsed}
+use Rattle.states.proofs.Laws.{None, Some, InputUsed}
 use Rattle.judging.proofs.Laws.{refusal_by}
 use Rattle.two_states.proofs.Laws.{OfY, opened_two, two_state?}
 use Rattle.binary.proofs.Laws.{two_refusal, two_course, answered, two_ran, two_run}
-use Rattle.meaning.proofs.Laws.{◌over◌, system_r, system_b, system_d, named_from, product_of, of_the}
+use Rattle.meaning.proofs.Laws.{◌over◌, fraction, system_r, system_b, system_d, named_from, product_of, of_the}
 use Rattle.two_meaning.specs.TwoSession.{adding, TwoSession, UpToScaleForm, TwoNamed}
 use Rattle.two_meaning.proofs.TwoSessions.{session_two_product, session_two_named, newly_opened_two, called_again_two}
 
@@ -34,7 +34,7 @@ four a b c d = a ∷ b ∷ c ∷ d ∷ []
 abbrev Ends : System → Form → (xs ys given : List ℕ) → ℕ → ℕ → Form → ℕ → Type 0
 Ends a op xs ys given taken written m held =
     two_run a a (opened_two op) xs ys (replicate (written + 1) 0) ≡
-    two_ran (answered InputUsed taken taken written (record { form = m; x = Nothing; y = Digit held; turn = OfY })) (given ++ 0 ∷ [])
+    two_ran (answered InputUsed taken taken written (record { form = m; x = None; y = Some held; turn = OfY })) (given ++ 0 ∷ [])
 
 -- the absorbed digits name these two numbers in front of the rests, of which the operation makes the third; X makes a number of the rests, and in front of it the digits given
 -- out name the third
@@ -135,7 +135,7 @@ difference_numbers = record {
 
 -- ---- what the theorems on sessions say of the sum
 
-pub sum_session : TwoSession system_d system_d sum_form (record { x = half; y = third ++ 0 ∷ []; digits = five_sixths; divisors = [] }) (record { form = sum_state; x = Nothing; y = Digit 0; turn = OfY })
+pub sum_session : TwoSession system_d system_d sum_form (record { x = half; y = third ++ 0 ∷ []; digits = five_sixths; divisors = [] }) (record { form = sum_state; x = None; y = Some 0; turn = OfY })
 unfolding stored admission_of rows_verdict row_verdict within? gcd gcd4 gcd_by transformation_by interval_by first unless_refused closed? same? included? determinant_of
     pseudoinverse_of apply multiply_of image_of cancel_of form_of expands? follow run_by run judged_run on_two apply_two into_x into_y times_form gcd8 cancel_form images_of all_coefficients
     may_give? giving_of two_state? two_refusal refusal_by two_course
@@ -157,9 +157,6 @@ held_not_absorbed u =
     absurd (omega arith)
 
 -- the image of the rests 0/1 and −1/3 is a point, 4/12, and in front of it the output names the sum of the two numbers
-pub sum_named : TwoNamed system_d system_d sum_form half third five_sixths (record { form = sum_state; x = Nothing; y = Digit 0; turn = OfY }) (pos 0 over pos 1) (minus 1 over pos 3)
+pub sum_named : TwoNamed system_d system_d sum_form half third five_sixths (record { form = sum_state; x = None; y = Some 0; turn = OfY }) (pos 0 over pos 1) (minus 1 over pos 3)
 unfolding named_from apply transformation_by interval_by stored apply_two on_two
 sum_named = of_the (of_the (session_two_named sum_session) half refl) third refl (pos 0 over pos 1) (minus 1 over pos 3) fraction fraction fraction
-  where
-    fraction : {n : ℤ} {d : ℕ} → Point (n over pos (suc d))
-    fraction = record { not_both = λ e f. above_not_0 (up< (omega arith)) f }

@@ -3,7 +3,7 @@ use Rattle.std.specs.Prelude.{◌≡◌, Bool, ◌&&◌, ℕ, ◌+◌}
 use Rattle.bilinear.specs.Types.{Form}
 use Rattle.bilinear.specs.Form.{sum_form, difference_form, product_form}
 use Rattle.bilinear.specs.Lowest.{gcd8, lowest_form?, WithinForm, within_form?}
-use Rattle.states.specs.Types.{Nothing, Digit}
+use Rattle.states.specs.Types.{None, Some}
 use Rattle.states.specs.State.{HeldDigit, held_digit?, held_count}
 use Rattle.two_states.specs.Types.{Turn, OfX, OfY, TwoState}
 
@@ -11,7 +11,7 @@ use Rattle.two_states.specs.Types.{Turn, OfX, OfY, TwoState}
 
 -- "x first": nothing is held, and it is x's turn
 abbrev pub opened_two : Form → TwoState
-opened_two m = record { form = m; x = Nothing; y = Nothing; turn = OfX }
+opened_two m = record { form = m; x = None; y = None; turn = OfX }
 
 -- "runs with two inputs for x+y, x−y and xy"
 abbrev pub opened_sum : TwoState
@@ -25,10 +25,14 @@ opened_product = opened_two product_form
 
 -- a missing digit is loaded; the eight numbers stay
 abbrev pub loaded_x : TwoState → ℕ → TwoState
-loaded_x s a = record { form = s.form; x = Digit a; y = s.y; turn = s.turn }
+loaded_x s a = record { form = s.form; x = Some a; y = s.y; turn = s.turn }
 
 abbrev pub loaded_y : TwoState → ℕ → TwoState
-loaded_y s b = record { form = s.form; x = s.x; y = Digit b; turn = s.turn }
+loaded_y s b = record { form = s.form; x = s.x; y = Some b; turn = s.turn }
+
+abbrev pub loaded_by : Turn → TwoState → ℕ → TwoState
+loaded_by OfX s a = loaded_x s a
+loaded_by OfY s b = loaded_y s b
 
 -- eight new numbers, where a digit is given out
 abbrev pub given_two : TwoState → Form → TwoState
@@ -36,10 +40,14 @@ given_two s m = record { form = m; x = s.x; y = s.y; turn = s.turn }
 
 -- eight new numbers, nothing held in the word that was absorbed from, and the other's turn
 abbrev pub absorbed_x : TwoState → Form → TwoState
-absorbed_x s m = record { form = m; x = Nothing; y = s.y; turn = OfY }
+absorbed_x s m = record { form = m; x = None; y = s.y; turn = OfY }
 
 abbrev pub absorbed_y : TwoState → Form → TwoState
-absorbed_y s m = record { form = m; x = s.x; y = Nothing; turn = OfX }
+absorbed_y s m = record { form = m; x = s.x; y = None; turn = OfX }
+
+abbrev pub absorbed_by : TwoState → Form → Turn → TwoState
+absorbed_by s m OfX = absorbed_x s m
+absorbed_by s m OfY = absorbed_y s m
 
 -- ---- the rules for a state, where the input system has n digits. Eight times 0 is not cancelled: the greatest common divisor is 0 then.
 

@@ -4,24 +4,23 @@
 
 ghost use Rattle.std.specs.Prelude.{◌≡◌};
 ghost use Rattle.bilinear.specs.Form.{over_one};
-ghost use Rattle.two_states.specs.TwoState.{opened_two, opened_sum, opened_difference, opened_product, loaded_x, loaded_y, given_two, absorbed_x, absorbed_y, two_state?};
+ghost use Rattle.two_states.specs.TwoState.{opened_two, opened_sum, opened_difference, opened_product, loaded_by, given_two, absorbed_by, two_state?};
 
 use bilinear::Form;
-use states::Held;
 
 // Whose digit is absorbed next, where none can be given out.
-#[derive(Clone, Copy)]
+#[derive(Clone, Copy, Debug, PartialEq, Eq)]
 pub enum Turn {
     OfX,
     OfY,
 }
 
 // The eight numbers, a held digit of each word or none, and whose turn it is.
-#[derive(Clone, Copy)]
+#[derive(Clone, Copy, Debug, PartialEq, Eq)]
 pub struct TwoState {
     pub form: Form,
-    pub x: Held,
-    pub y: Held,
+    pub x: Option<u8>,
+    pub y: Option<u8>,
     pub turn: Turn,
 }
 
@@ -29,14 +28,13 @@ pub struct TwoState {
 fn opened(numerator: [i64; 4]) -> TwoState
     ensures { result ≡ opened_two (over_one numerator) }
 {
-    let form = Form {
-        numerator,
-        denominator: [0, 0, 0, 1],
-    };
     TwoState {
-        form,
-        x: Held::Nothing,
-        y: Held::Nothing,
+        form: Form {
+            numerator,
+            denominator: [0, 0, 0, 1],
+        },
+        x: None,
+        y: None,
         turn: Turn::OfX,
     }
 }
@@ -62,64 +60,46 @@ pub fn open_product() -> TwoState
     opened([1, 0, 0, 0])
 }
 
-pub fn loaded_x(s: TwoState, digit: u8) -> TwoState
-    ensures { result ≡ loaded_x s digit }
+// A missing digit of one of the words is loaded; the eight numbers stay.
+pub fn loaded(s: TwoState, word: Turn, digit: u8) -> TwoState
+    ensures { result ≡ loaded_by word s digit }
 {
-    let form = s.form;
-    let y = s.y;
-    let turn = s.turn;
-    TwoState {
-        form,
-        x: Held::Digit(digit),
-        y,
-        turn,
+    match word {
+        Turn::OfX => TwoState {
+            x: Some(digit),
+            ..s
+        },
+        Turn::OfY => TwoState {
+            y: Some(digit),
+            ..s
+        },
     }
 }
 
-pub fn loaded_y(s: TwoState, digit: u8) -> TwoState
-    ensures { result ≡ loaded_y s digit }
-{
-    let form = s.form;
-    let x = s.x;
-    let turn = s.turn;
-    TwoState {
-        form,
-        x,
-        y: Held::Digit(digit),
-        turn,
-    }
-}
-
+// Eight new numbers, where a digit is given out.
 pub fn given(s: TwoState, form: Form) -> TwoState
     ensures { result ≡ given_two s form }
 {
-    let x = s.x;
-    let y = s.y;
-    let turn = s.turn;
-    TwoState { form, x, y, turn }
+    TwoState { form, ..s }
 }
 
-pub fn absorbed_x(s: TwoState, form: Form) -> TwoState
-    ensures { result ≡ absorbed_x s form }
+// Eight new numbers, nothing held in the word that was absorbed from, and the other's turn.
+pub fn absorbed(s: TwoState, word: Turn, form: Form) -> TwoState
+    ensures { result ≡ absorbed_by s form word }
 {
-    let y = s.y;
-    TwoState {
-        form,
-        x: Held::Nothing,
-        y,
-        turn: Turn::OfY,
-    }
-}
-
-pub fn absorbed_y(s: TwoState, form: Form) -> TwoState
-    ensures { result ≡ absorbed_y s form }
-{
-    let x = s.x;
-    TwoState {
-        form,
-        x,
-        y: Held::Nothing,
-        turn: Turn::OfX,
+    match word {
+        Turn::OfX => TwoState {
+            form,
+            x: None,
+            turn: Turn::OfY,
+            ..s
+        },
+        Turn::OfY => TwoState {
+            form,
+            y: None,
+            turn: Turn::OfX,
+            ..s
+        },
     }
 }
 
@@ -127,17 +107,8 @@ pub fn absorbed_y(s: TwoState, form: Form) -> TwoState
 pub fn state_kept(n: usize, s: TwoState) -> bool
     ensures { result ≡ two_state? n s }
 {
-    let form = s.form;
-    if !bilinear::within_state(form) {
-        return false;
-    }
-    if !bilinear::lowest(form) {
-        return false;
-    }
-    let x = s.x;
-    if !states::held_below(n, x) {
-        return false;
-    }
-    let y = s.y;
-    states::held_below(n, y)
+    bilinear::within_state(s.form)
+        && bilinear::lowest(s.form)
+        && states::held_below(n, s.x)
+        && states::held_below(n, s.y)
 }

@@ -6,7 +6,7 @@ use Rattle.bilinear.proofs.Laws.{Form, into_x, into_y, given_form, cancel_form, 
 use Rattle.digits.proofs.Laws.{transformation}
 use Rattle.admission.proofs.Laws.{Digits}
 use Rattle.runs.proofs.Laws.{Supply, Deed, nothing, and_then, Going, took_x, took_y, gave}
-use Rattle.states.proofs.Laws.{Digit, Held, HeldDigit}
+use Rattle.states.proofs.Laws.{Some, Held, HeldDigit}
 use Rattle.steps.proofs.Laws.{Setting, every_both, Below}
 use Rattle.two_states.proofs.Laws.{TwoState, TwoRules}
 use Rattle.two_steps.specs.TwoStep.{pairs}
@@ -18,7 +18,7 @@ pub record Kept (y : Setting) (d : Deed) (t : TwoState) : Type 0 where
   pub state : TwoRules y.input.count t
 
 -- a held digit is one of the input system's
-pub held_below : {n a : ℕ} {h : Held} → HeldDigit n h → h ≡ Digit a → a < n
+pub held_below : {n a : ℕ} {h : Held} → HeldDigit n h → h ≡ Some a → a < n
 held_below {n} k e = subst (HeldDigit n) e k
 
 module _ (y : Setting) (inputs : Digits y.input) (outputs : Digits y.output) (a : Deed) (s : TwoState) (k : Kept y a s) where

@@ -8,6 +8,6 @@ pub use Rattle.two_steps.proofs.Kept.{Kept, held_below, step_keeps}
 -- numbers of digits that a system hasn't got change no step
 pub use Rattle.two_steps.proofs.SamePlan.{Holds, same_plan, step_holds}
 -- the definitions
-pub use Rattle.two_steps.specs.Made.{Follows, Ready, StaysBy, WorksWhere, WorksWith, halt, move, next_of, outcome_by}
-pub use Rattle.two_steps.specs.TwoStep.{absorb, both_held, choice, give, load_x, load_y, pairs, plan_by, ranged, two_plan, two_words}
-pub use Rattle.two_steps.specs.Types.{Absorb, Give, Halt, Is, Kind, LoadX, LoadY, Move, Next, Other, Used}
+pub use Rattle.two_steps.specs.Made.{Follows, Ready, StaysBy, WorksWhere, WorksWith, halt, move, next_of, outcome_by, word_of}
+pub use Rattle.two_steps.specs.TwoStep.{absorb, both_held, choice, give, load_by, load_x, load_y, pairs, plan_by, ranged, two_plan, two_words}
+pub use Rattle.two_steps.specs.Types.{Absorb, Give, Halt, Kind, Load, Move}

@@ -1,67 +1,49 @@
 -- What the plan of a step does, as the functions of src/ meet it: each test comes out, and the plan is followed to its end.
-use Rattle.whole.proofs.Laws.{◌≡◌, refl, sym, ◌∙◌, Bool, true, false, true≢false, false≢true, cond, List, [], ◌∷◌, Option, none, some, ℕ, zero, suc, ◌-◌, ◌<◌, ◌≤◌, arith, ltb, lt-ltb, le-ltb}
-use Rattle.whole.proofs.Laws.{le-leb, length, drop, get_or, drop_of_length-le, ℤ}
+use Rattle.whole.proofs.Laws.{◌≡◌, refl, sym, ◌∙◌, Bool, true, false, true≢false, false≢true, cond, List, [], ◌∷◌, Option, none, some, ℕ, zero, suc, ◌-◌, arith, ltb}
+use Rattle.whole.proofs.Laws.{le-leb}
 use borrow.Author.Tests.{leb-true}
-use lib.Seq.{drop-cons}
 use Rattle.bilinear.proofs.Laws.{cancel_form, within_form?}
-use Rattle.digits.proofs.Laws.{lent}
 use Rattle.runs.proofs.Laws.{Supply, Deed, nothing, and_then, spend, Outcome, goes, stop, go, digit, took_x, took_y, first, with_byte, follow}
 use Rattle.states.proofs.Laws.{Stop, InputUsed, NoRoom, NotADigit, RangeLeft}
-use Rattle.steps.proofs.Laws.{setting}
-use Rattle.two_states.proofs.Laws.{Turn, OfX, OfY, TwoState, loaded_x, loaded_y}
-use Rattle.two_steps.specs.Types.{Next, Used, Other, Is, Kind, LoadX, LoadY, Give, Absorb, Move}
-use Rattle.two_steps.specs.TwoStep.{two_words, ranged, load_x, load_y, absorb, both_held}
-use Rattle.two_steps.specs.Made.{next_of, move, halt, outcome_by, StaysBy, Follows, absorbed_product, product_by, absorbed_by, finished_by, no_room?}
-
--- ---- the next byte of a word, behind the i that are taken
-
-module _ (n : ℕ) (word : List ℕ) (i : ℕ) where
-  pub next_used : length word ≤ i → Used ≡ next_of n (drop i word)
-  next_used h = rw (drop_of_length-le word h)
-
-  pub next_is : i < length word → get_or word i 0 < n → Is (get_or word i 0) ≡ next_of n (drop i word)
-  next_is h k = rw (drop-cons word i 0 h, lt-ltb (get_or word i 0) n k)
-
-  pub next_other : i < length word → n ≤ get_or word i 0 → Other ≡ next_of n (drop i word)
-  next_other h k = rw (drop-cons word i 0 h, le-ltb (get_or word i 0) n k)
+use Rattle.steps.proofs.Laws.{Setting}
+use Rattle.two_states.proofs.Laws.{Turn, OfX, OfY, TwoState, loaded_by, absorbed_by}
+use Rattle.two_steps.specs.Types.{Result, Ok, Err, Kind, Load, Give, Absorb, Move}
+use Rattle.two_steps.specs.TwoStep.{two_words, ranged, load_by, absorb, both_held}
+use Rattle.two_steps.specs.Made.{next_of, word_of, move, halt, outcome_by, StaysBy, Follows, absorbed_product, product_by, finished_by, no_room?}
 
 -- ---- a missing digit: the move by the word's next byte
 
-abbrev pub load_move : (ℕ → Kind) → (TwoState → ℕ → TwoState) → TwoState → Next → Move
-load_move kind loaded s Used = halt InputUsed s
-load_move kind loaded s Other = halt NotADigit s
-load_move kind loaded s (Is b) = move (kind b) (loaded s b)
+abbrev pub load_move : Turn → TwoState → Result ℕ Stop → Move
+load_move word s (Ok b) = move (Load word b) (loaded_by word s b)
+load_move word s (Err e) = halt e s
 
--- one word, whichever it is: of its kind, its way to load and what is taken of it
-module _ (kind : ℕ → Kind) (loaded : TwoState → ℕ → TwoState) (took : ℕ → Deed) (s : TwoState) (takes : (b : ℕ) (t : TwoState) → outcome_by (kind b) t ≡ goes t (and_then (took b) nothing))
-    (goes_on : (b : ℕ) (t : TwoState) → StaysBy s (kind b) t) (count : ℕ) (rest : ℕ → Supply) where
+-- one word, whichever it is: of what is taken of it
+module _ (word : Turn) (took : ℕ → Deed) (s : TwoState) (takes : (b : ℕ) (t : TwoState) → outcome_by (Load word b) t ≡ goes t (and_then (took b) nothing))
+    (count : ℕ) (rest : ℕ → Supply) where
   abbrev answer : List ℕ → Move
-  answer bytes = load_move kind loaded s (next_of count bytes)
+  answer bytes = load_move word s (next_of count bytes)
 
   abbrev as_planned : ℕ → Outcome TwoState Stop
-  as_planned b = first (took b) (follow (cond (ltb b count) (go (loaded s b)) (stop NotADigit)) (rest b))
+  as_planned b = first (took b) (follow (cond (ltb b count) (go (loaded_by word s b)) (stop NotADigit)) (rest b))
 
   by_byte : (bytes : List ℕ) → let m = answer bytes in (outcome_by m.kind m.state ≡ with_byte InputUsed bytes as_planned) × StaysBy s m.kind m.state
   unfolding follow
   by_byte [] = (refl, refl)
   by_byte (b ∷ bytes) = by (ltb b count)
     where
-      by : (c : Bool) → let m = load_move kind loaded s (cond c (Is b) Other) in
-          (outcome_by m.kind m.state ≡ first (took b) (follow (cond c (go (loaded s b)) (stop NotADigit)) (rest b))) × StaysBy s m.kind m.state
-      by true = (takes b (loaded s b), goes_on b (loaded s b))
+      by : (c : Bool) → let m = load_move word s (cond c (Ok b) (Err NotADigit)) in
+          (outcome_by m.kind m.state ≡ first (took b) (follow (cond c (go (loaded_by word s b)) (stop NotADigit)) (rest b))) × StaysBy s m.kind m.state
+      by true = (takes b (loaded_by word s b), tt)
       by false = (refl, refl)
 
 module _ (count : ℕ) (s : TwoState) (xs ys : List ℕ) (room : ℕ) where
-  pub loads_x : (next : Next) → next ≡ next_of count xs → Follows (load_x count s) s (two_words xs ys room) (load_move LoadX loaded_x s next)
+  pub loads : (word : Turn) (next : Result ℕ Stop) → next ≡ next_of count (word_of word xs ys) → Follows (load_by word count s) s (two_words xs ys room) (load_move word s next)
   unfolding follow
-  loads_x next e =
-      let p = by_byte LoadX loaded_x took_x s (λ b t. refl) (λ b t. tt) count (λ b. spend (took_x b) (two_words xs ys room)) xs in
+  loads OfX next e =
+      let p = by_byte OfX took_x s (λ b t. refl) count (λ b. spend (took_x b) (two_words xs ys room)) xs in
       rw e (record { outcome = p.0; stays = p.1 })
-
-  pub loads_y : (next : Next) → next ≡ next_of count ys → Follows (load_y count s) s (two_words xs ys room) (load_move LoadY loaded_y s next)
-  unfolding follow
-  loads_y next e =
-      let p = by_byte LoadY loaded_y took_y s (λ b t. refl) (λ b t. tt) count (λ b. spend (took_y b) (two_words xs ys room)) ys in
+  loads OfY next e =
+      let p = by_byte OfY took_y s (λ b t. refl) count (λ b. spend (took_y b) (two_words xs ys room)) ys in
       rw e (record { outcome = p.0; stays = p.1 })
 
 -- ---- where both digits are held: cancelled numbers, if they are in the range
@@ -89,10 +71,10 @@ module _ (s t : TwoState) (xs ys : List ℕ) where
       by true = record { outcome = refl; stays = tt }
       by false = record { outcome = refl; stays = refl }
 
--- whatever the counts of the systems are: the held digits are known, and the one that was found is
-module _ (n m : ℕ) (inputs outputs : List ℤ) (s : TwoState) (a b : ℕ) (xs ys : List ℕ) (o room : ℕ) where
+-- the held digits are known, and the one that was found is
+module _ (y : Setting) (s : TwoState) (a b : ℕ) (xs ys : List ℕ) (o room : ℕ) where
   abbrev Told : Option ℕ → Move → Type 0
-  Told fit = Follows (both_held (setting (lent n inputs) (lent m outputs)) s a b fit) s (two_words xs ys (room - o))
+  Told fit = Follows (both_held y s a b fit) s (two_words xs ys (room - o))
 
   pub stops_full : (fit : Option ℕ) → no_room? fit o room ≡ true → Told fit (halt NoRoom s)
   unfolding follow
@@ -101,12 +83,12 @@ module _ (n m : ℕ) (inputs outputs : List ℤ) (s : TwoState) (a b : ℕ) (xs 
 
   -- by whose turn it is
   abbrev absorbing : Turn → Move
-  absorbing w = let new = cancel_form (absorbed_product inputs s a b w).form in cond (within_form? 1000000000 new) (move Absorb (absorbed_by s new w)) (halt RangeLeft s)
+  absorbing w = let new = cancel_form (absorbed_product y.input s a b w).form in cond (within_form? 1000000000 new) (move Absorb (absorbed_by s new w)) (halt RangeLeft s)
 
-  by_turn : (w : Turn) → Follows (absorb (lent n inputs) s a b w) s (two_words xs ys (room - o)) (absorbing w)
+  by_turn : (w : Turn) → Follows (absorb y.input s a b w) s (two_words xs ys (room - o)) (absorbing w)
   by_turn OfX = absorbs s _ xs ys (room - o)
   by_turn OfY = absorbs s _ xs ys (room - o)
 
-  pub finishes : (fit : Option ℕ) → no_room? fit o room ≡ false → Told fit (finished_by s (product_by inputs outputs s a b fit) fit)
+  pub finishes : (fit : Option ℕ) → no_room? fit o room ≡ false → Told fit (finished_by s (product_by y s a b fit) fit)
   finishes none e = by_turn s.turn
   finishes (some c) e = gives s _ xs ys c (room - o) (λ z. true≢false (sym (le-leb room o (omega (arith, z))) ∙ e))

@@ -5,7 +5,7 @@ use Rattle.bilinear.proofs.Laws.{into_x, into_y, given_form, cancel_form}
 use Rattle.digits.proofs.Laws.{SameDigits}
 use Rattle.giving.proofs.Laws.{images_of, giving_of, same_giving}
 use Rattle.runs.proofs.Laws.{Supply, Going, digit}
-use Rattle.states.proofs.Laws.{Held, Nothing, Digit, NoRoom, HeldDigit}
+use Rattle.states.proofs.Laws.{Held, None, Some, NoRoom, HeldDigit}
 use Rattle.steps.proofs.Laws.{Setting}
 use Rattle.two_states.proofs.Laws.{Turn, OfX, OfY, TwoState, given_two, absorbed_x, absorbed_y}
 use Rattle.two_steps.specs.TwoStep.{ranged, load_x, load_y, choice, absorb, both_held, plan_by, two_plan, pairs}
@@ -19,7 +19,7 @@ pub record Holds (n : ℕ) (s : TwoState) : Type 0 where
 module _ (y z : Setting) (same_in : SameDigits y.input z.input) (same_out : SameDigits y.output z.output) (few_in : y.input.count ≤ 16) (few_out : y.output.count ≤ 16)
     (s : TwoState) where
   abbrev Within : ℕ → Type 0
-  Within a = HeldDigit y.input.count (Digit a)
+  Within a = HeldDigit y.input.count (Some a)
 
   same_choice : (a b : ℕ) → Within a → Within b → choice y s a b ≡ choice z s a b
   same_choice a b k l =
@@ -35,9 +35,9 @@ module _ (y z : Setting) (same_in : SameDigits y.input z.input) (same_out : Same
   same_both a b k l none e = same_turn a b k l s.turn
 
   by_held : (h j : Held) → HeldDigit y.input.count h → HeldDigit y.input.count j → plan_by y s h j ≡ plan_by z s h j
-  by_held Nothing j k l = ap (λ (n : ℕ). load_x n s) same_in.count
-  by_held (Digit a) Nothing k l = ap (λ (n : ℕ). load_y n s) same_in.count
-  by_held (Digit a) (Digit b) k l = same_both a b k l (choice y s a b) refl ∙ ap (both_held z s a b) (same_choice a b k l)
+  by_held None j k l = ap (λ (n : ℕ). load_x n s) same_in.count
+  by_held (Some a) None k l = ap (λ (n : ℕ). load_y n s) same_in.count
+  by_held (Some a) (Some b) k l = same_both a b k l (choice y s a b) refl ∙ ap (both_held z s a b) (same_choice a b k l)
 
   pub same_plan : Holds y.input.count s → two_plan y s ≡ two_plan z s
   same_plan k = by_held s.x s.y k.x k.y

@@ -1,33 +1,31 @@
 -- What the functions of a step may rely on: a held digit, and the one that was found, can be worked with; the numbers of a step are in their range, and what is cancelled divides
 -- the determinant of its digit.
-use Rattle.whole.proofs.Laws.{◌≡◌, sym, ap, ap₂, subst, ◌∙◌, List, Option, none, some, ℕ, ◌<◌, ℤ, pos, nat_abs, ◌<ℤ◌, Within}
+use Rattle.whole.proofs.Laws.{arith, ◌≡◌, sym, ap, ap₂, subst, ◌∙◌, List, Option, none, some, ℕ, ◌<◌, ℤ, pos, nat_abs, ◌<ℤ◌, Within}
 use Rattle.plane.proofs.Laws.{determinant_of, pseudoinverse_within, size_above}
 use Rattle.bilinear.proofs.Laws.{Form, into_x, into_y, given_form, into_x_divides, into_y_divides, given_divides, into_x_within, into_y_within, times_within}
-use Rattle.digits.proofs.Laws.{System, Columns, lent, transformation_at, digit_there}
+use Rattle.digits.proofs.Laws.{System, transformation}
 use Rattle.fitting.proofs.Laws.{Searchable}
-use Rattle.steps.proofs.Laws.{setting, Usable}
+use Rattle.steps.proofs.Laws.{Setting, Usable}
 use Rattle.two_states.proofs.Laws.{Turn, OfX, OfY, TwoState, TwoRules}
-use Rattle.two_steps.specs.Types.{Product}
 use Rattle.two_steps.specs.TwoStep.{choice}
 use Rattle.two_steps.specs.Made.{WorksWith, WorksWhere, Cancellable, product, absorbed_product, product_by}
 use Rattle.two_steps.proofs.Ways.{chosen_below}
 
 -- a digit of a system, with a state that keeps its rules
-pub works : {n k : ℕ} {columns : List ℤ} {s : TwoState} (a : ℕ) → Columns columns → Usable (lent n columns) → TwoRules k s → a < n → WorksWith columns s a
-works a there usable rules below = record {
-  there = digit_there there usable.few below;
+pub works : {y : System} {k : ℕ} {s : TwoState} (a : ℕ) → Usable y → TwoRules k s → a < y.count → WorksWith y s a
+works a usable rules below = record {
+  there = omega (arith, usable.few);
   digit = usable.digits a below;
   cancelled = rules.cancelled;
   in_range = rules.in_range;
 }
 
 -- the digit that was found, if one was, where one of x can be worked with
-pub works_where : {n : ℕ} {in_columns out_columns : List ℤ} {s : TwoState} {a : ℕ} (b : ℕ) → WorksWith in_columns s a → Columns out_columns → Usable (lent n out_columns) →
-    (fit : Option ℕ) → choice (setting (lent 0 in_columns) (lent n out_columns)) s a b ≡ fit → WorksWhere out_columns s fit
-works_where b w there usable none e = tt
-works_where {n} {in_columns} {out_columns} {s} {a} b w there usable (some c) e =
-    let below = chosen_below (setting (lent 0 in_columns) (lent n out_columns)) s a b c e in
-    record { there = digit_there there usable.few below; digit = usable.digits c below; cancelled = w.cancelled; in_range = w.in_range }
+pub works_where : (y : Setting) {s : TwoState} {a : ℕ} (b : ℕ) → WorksWith y.input s a → Usable y.output → (fit : Option ℕ) → choice y s a b ≡ fit → WorksWhere y.output s fit
+works_where y b w usable none e = tt
+works_where y {s} {a} b w usable (some c) e =
+    let below = chosen_below y s a b c e in
+    record { there = omega (arith, below, usable.few); digit = usable.digits c below; cancelled = w.cancelled; in_range = w.in_range }
 
 -- its intervals can be searched
 pub searchable : {s : System} → Usable s → Searchable s
@@ -35,7 +33,7 @@ searchable u = record { small = λ a h. (u.digits a h).in_range.numbers_w; inter
 
 -- ---- a transformation f that was read, of a digit that can be worked with
 
-module _ {columns : List ℤ} {s : TwoState} {a : ℕ} {f : List ℤ} (w : WorksWith columns s a) (e : f ≡ transformation_at columns a) where
+module _ {y : System} {s : TwoState} {a : ℕ} {f : List ℤ} (w : WorksWith y s a) (e : f ≡ transformation y a) where
   pub numbers_small : Within 100 f
   numbers_small = subst (Within 100) (sym e) w.digit.in_range.numbers_f
 
@@ -48,9 +46,9 @@ made_product e d g = ap₂ (λ (m : Form) (d : ℕ). record { form = m; determin
 
 -- ---- the eight numbers of a step can be cancelled by the determinant of its digit
 
-module _ {columns : List ℤ} {s : TwoState} {a : ℕ} (w : WorksWith columns s a) where
+module _ {y : System} {s : TwoState} {a : ℕ} (w : WorksWith y s a) where
   abbrev f : List ℤ
-  f = transformation_at columns a
+  f = transformation y a
 
   cancellable_x : Cancellable (product (into_x s.form f) f)
   cancellable_x = let d = w.digit in (into_x_within d.in_range.numbers_f w.in_range, size_above d.above, into_x_divides s.form f w.cancelled d.above)
@@ -63,11 +61,11 @@ module _ {columns : List ℤ} {s : TwoState} {a : ℕ} (w : WorksWith columns s 
       let d = w.digit in
       (times_within (pseudoinverse_within d.in_range.numbers_f) w.in_range, size_above d.above, given_divides f s.form w.cancelled d.above)
 
-module _ {inputs : List ℤ} (outputs : List ℤ) {s : TwoState} {a b : ℕ} (w : WorksWith inputs s a) (v : WorksWith inputs s b) where
-  by_turn : (t : Turn) → Cancellable (absorbed_product inputs s a b t)
+module _ (y : Setting) {s : TwoState} {a b : ℕ} (w : WorksWith y.input s a) (v : WorksWith y.input s b) where
+  by_turn : (t : Turn) → Cancellable (absorbed_product y.input s a b t)
   by_turn OfX = cancellable_x w
   by_turn OfY = cancellable_y v
 
-  pub cancellable : (fit : Option ℕ) → WorksWhere outputs s fit → Cancellable (product_by inputs outputs s a b fit)
+  pub cancellable : (fit : Option ℕ) → WorksWhere y.output s fit → Cancellable (product_by y s a b fit)
   cancellable none g = by_turn s.turn
   cancellable (some c) g = cancellable_given g

@@ -7,25 +7,30 @@ use Rattle.plane.specs.Plane.{determinant_of}
 use Rattle.bilinear.specs.Types.{Form}
 use Rattle.bilinear.specs.Form.{into_x, into_y, given_form}
 use Rattle.bilinear.specs.Lowest.{gcd8, cancel_form, WithinForm, within_form?}
-use Rattle.digits.specs.Orders.{transformation_at, interval_at, DigitThere}
+use Rattle.digits.specs.System.{System, transformation, interval}
 use Rattle.admission.specs.Admitted.{Digit as IsDigit}
 use Rattle.runs.specs.Supply.{Supply}
 use Rattle.runs.specs.Machine.{Outcome, goes, halts}
 use Rattle.runs.specs.Plan.{Plan, took_x, took_y, gave, follow}
 use Rattle.runs.specs.Supply.{nothing}
-use Rattle.states.specs.Types.{Stop, RangeLeft}
+use Rattle.states.specs.Types.{Stop, InputUsed, NotADigit, RangeLeft}
 use Rattle.steps.specs.Step.{Setting}
 use Rattle.steps.specs.Made.{Usable}
 use Rattle.two_states.specs.Types.{Turn, OfX, OfY, TwoState}
-use Rattle.two_states.specs.TwoState.{TwoRules, given_two, absorbed_x, absorbed_y}
-use Rattle.two_steps.specs.Types.{Next, Used, Other, Is, Kind, LoadX, LoadY, Give, Absorb, Halt, Move, Product}
+use Rattle.two_states.specs.TwoState.{TwoRules, given_two, absorbed_by}
+use Rattle.two_steps.specs.Types.{Result, Ok, Err, Kind, Load, Give, Absorb, Halt, Move, Product}
 
 -- ---- a step that the code made
 
--- the next byte of a word, where a system has n digits: none, one that is no digit, or a digit
-abbrev pub next_of : ℕ → List ℕ → Next
-next_of n [] = Used
-next_of n (b ∷ bytes) = cond (ltb b n) (Is b) Other
+-- the next byte of a word, where a system has n digits: a digit, or why the run stops, none or one that is no digit
+abbrev pub next_of : ℕ → List ℕ → Result ℕ Stop
+next_of n [] = Err InputUsed
+next_of n (b ∷ bytes) = cond (ltb b n) (Ok b) (Err NotADigit)
+
+-- one of the two words
+abbrev pub word_of : Turn → (xs ys : List ℕ) → List ℕ
+word_of OfX xs ys = xs
+word_of OfY xs ys = ys
 
 abbrev pub move : Kind → TwoState → Move
 move k t = record { kind = k; state = t }
@@ -35,16 +40,15 @@ halt e s = move (Halt e) s
 
 -- what a step of each kind did
 abbrev pub outcome_by : Kind → TwoState → Outcome TwoState Stop
-outcome_by (LoadX a) t = goes t (took_x a)
-outcome_by (LoadY b) t = goes t (took_y b)
+outcome_by (Load OfX a) t = goes t (took_x a)
+outcome_by (Load OfY b) t = goes t (took_y b)
 outcome_by (Give c) t = goes t (gave c)
 outcome_by Absorb t = goes t nothing
 outcome_by (Halt e) t = halts e
 
 -- "A stop leaves the state as it was before that step."
 abbrev pub StaysBy : TwoState → Kind → TwoState → Type 0
-StaysBy s (LoadX a) t = Unit {0}
-StaysBy s (LoadY b) t = Unit {0}
+StaysBy s (Load word a) t = Unit {0}
 StaysBy s (Give c) t = Unit {0}
 StaysBy s Absorb t = Unit {0}
 StaysBy s (Halt e) t = t ≡ s
@@ -60,24 +64,20 @@ abbrev pub product : Form → List ℤ → Product
 product m f = record { form = m; determinant = nat_abs (determinant_of f) }
 
 -- the digit c is given out
-abbrev pub given_product : List ℤ → TwoState → ℕ → Product
-given_product columns s c = let g = transformation_at columns c in product (given_form g s.form) g
+abbrev pub given_product : System → TwoState → ℕ → Product
+given_product output s c = let g = transformation output c in product (given_form g s.form) g
 
 -- the digit whose turn it is is absorbed
-abbrev pub absorbed_product : List ℤ → TwoState → ℕ → ℕ → Turn → Product
-absorbed_product columns s a b OfX = let f = transformation_at columns a in product (into_x s.form f) f
-absorbed_product columns s a b OfY = let f = transformation_at columns b in product (into_y s.form f) f
+abbrev pub absorbed_product : System → TwoState → ℕ → ℕ → Turn → Product
+absorbed_product input s a b OfX = let f = transformation input a in product (into_x s.form f) f
+absorbed_product input s a b OfY = let f = transformation input b in product (into_y s.form f) f
 
 -- by the digit that was found, if one was
-abbrev pub product_by : (inputs outputs : List ℤ) → TwoState → ℕ → ℕ → Option ℕ → Product
-product_by inputs outputs s a b none = absorbed_product inputs s a b s.turn
-product_by inputs outputs s a b (some c) = given_product outputs s c
+abbrev pub product_by : Setting → TwoState → ℕ → ℕ → Option ℕ → Product
+product_by y s a b none = absorbed_product y.input s a b s.turn
+product_by y s a b (some c) = given_product y.output s c
 
 -- the step with the cancelled numbers
-abbrev pub absorbed_by : TwoState → Form → Turn → TwoState
-absorbed_by s new OfX = absorbed_x s new
-absorbed_by s new OfY = absorbed_y s new
-
 abbrev pub moved_by : TwoState → Form → Option ℕ → Move
 moved_by s new none = move Absorb (absorbed_by s new s.turn)
 moved_by s new (some c) = move (Give c) (given_two s new)
@@ -93,17 +93,17 @@ no_room? (some c) o room = leb room o
 
 -- ---- what may be relied on
 
--- a digit whose numbers are there, and a state whose eight numbers it can be multiplied with
-pub record WorksWith (columns : List ℤ) (s : TwoState) (a : ℕ) : Type 0 where
-  pub there : DigitThere columns a
-  pub digit : IsDigit (transformation_at columns a) (interval_at columns a)
+-- a digit that has a place in a system, and a state whose eight numbers it can be multiplied with
+pub record WorksWith (y : System) (s : TwoState) (a : ℕ) : Type 0 where
+  pub there : a < 16
+  pub digit : IsDigit (transformation y a) (interval y a)
   pub cancelled : gcd8 s.form ≡ 1
   pub in_range : WithinForm 1000000000 s.form
 
 -- the digit that was found, if one was, can be given out
-abbrev pub WorksWhere : List ℤ → TwoState → Option ℕ → Type 0
-WorksWhere columns s none = Unit {0}
-WorksWhere columns s (some c) = WorksWith columns s c
+abbrev pub WorksWhere : System → TwoState → Option ℕ → Type 0
+WorksWhere output s none = Unit {0}
+WorksWhere output s (some c) = WorksWith output s c
 
 -- what is to be cancelled of a product divides the determinant beside it
 abbrev pub Cancellable : Product → Type 0

@@ -3,7 +3,6 @@
 -- word the step is a plan, so "A stop leaves the state as it was before that step" is how it is read (crates/runs/specs/Plan.antt).
 use Rattle.std.specs.Prelude.{cond, List, ℕ, ltb}
 use Rattle.std.proofs.Math.Option.{Option, none, some}
-use Rattle.bilinear.specs.Types.{Form}
 use Rattle.bilinear.specs.Form.{into_x, into_y, given_form}
 use Rattle.bilinear.specs.Lowest.{cancel_form, within_form?}
 use Rattle.digits.specs.System.{System, transformation, interval}
@@ -11,7 +10,7 @@ use Rattle.giving.specs.MayGive.{images_of, giving_of}
 use Rattle.runs.specs.Supply.{Supply}
 use Rattle.runs.specs.Machine.{Machine}
 use Rattle.runs.specs.Plan.{Plan, stop, go, byte_x, byte_y, digit, planned}
-use Rattle.states.specs.Types.{Held, Nothing, Digit, Stop, InputUsed, NoRoom, NotADigit, RangeLeft}
+use Rattle.states.specs.Types.{Held, None, Some, Stop, InputUsed, NoRoom, NotADigit, RangeLeft}
 use Rattle.steps.specs.Step.{Setting}
 use Rattle.two_states.specs.Types.{Turn, OfX, OfY, TwoState}
 use Rattle.two_states.specs.TwoState.{loaded_x, loaded_y, given_two, absorbed_x, absorbed_y, held_two}
@@ -26,6 +25,10 @@ load_x n s = byte_x InputUsed (λ a. cond (ltb a n) (go (loaded_x s a)) (stop No
 
 abbrev pub load_y : ℕ → TwoState → Plan TwoState Stop
 load_y n s = byte_y InputUsed (λ b. cond (ltb b n) (go (loaded_y s b)) (stop NotADigit))
+
+abbrev pub load_by : Turn → ℕ → TwoState → Plan TwoState Stop
+load_by OfX n s = load_x n s
+load_by OfY n s = load_y n s
 
 -- the smallest digit that may be given out, where a of x and b of y are held
 abbrev pub choice : Setting → TwoState → ℕ → ℕ → Option ℕ
@@ -46,9 +49,9 @@ both_held y s a b (some c) = give y.output s c
 both_held y s a b none = absorb y.input s a b s.turn
 
 abbrev pub plan_by : Setting → TwoState → Held → Held → Plan TwoState Stop
-plan_by y s Nothing h = load_x y.input.count s
-plan_by y s (Digit a) Nothing = load_y y.input.count s
-plan_by y s (Digit a) (Digit b) = both_held y s a b (choice y s a b)
+plan_by y s None h = load_x y.input.count s
+plan_by y s (Some a) None = load_y y.input.count s
+plan_by y s (Some a) (Some b) = both_held y s a b (choice y s a b)
 
 abbrev pub two_plan : Setting → TwoState → Plan TwoState Stop
 two_plan y s = plan_by y s s.x s.y

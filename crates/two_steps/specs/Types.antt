@@ -1,13 +1,11 @@
 -- The types of src/, for one `use` line. (A crate passes on a type of `declared` only from under another name.)
-use Rattle.two_steps.specs.declared.Next as ENext
-use Rattle.two_steps.specs.declared.Next.TheVariants as VNext
+use Rattle.std.specs.Prelude as std
 use Rattle.two_steps.specs.declared.Kind as EKind
 use Rattle.two_steps.specs.declared.Kind.TheVariants as VKind
 use Rattle.two_steps.specs.declared.Move as SMove
 use Rattle.two_steps.specs.declared.Product as SProduct
-pub use ENext.{Next}
-pub use VNext.{Used, Other, Is}
 pub use EKind.{Kind}
-pub use VKind.{LoadX, LoadY, Give, Absorb, Halt}
+pub use VKind.{Load, Give, Absorb, Halt}
 pub use SMove.{Move}
 pub use SProduct.{Product}
+pub use std.{Result, Ok, Err}

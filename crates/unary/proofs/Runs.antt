@@ -8,7 +8,7 @@ use Rattle.whole.proofs.Laws.{◌≡◌, refl, ap, subst, List, ◌⊎◌, inl, 
 use Rattle.digits.proofs.Laws.{System}
 use Rattle.admission.proofs.Laws.{admitted_digits}
 use Rattle.runs.proofs.Laws.{Supply, nothing, spend, Pays, cost, Halting, Course, stopped, run, within, nothing_pays, behind_unchanged, length_written, runs, paid, keeps, last_step, either, accepted_run, refused_run}
-use Rattle.states.proofs.Laws.{Nothing, State, Stop, Refused, StateRules, StepEnd, held_count, end_number}
+use Rattle.states.proofs.Laws.{None, State, Stop, Refused, StateRules, StepEnd, held_count, end_number}
 use Rattle.steps.proofs.Laws.{Setting, setting, plain, one_word, lawful, step_stops, DivisorNumber, Every, every_at, Below, Kept, step_keeps}
 use Rattle.runs.proofs.Laws as every
 use Rattle.judging.proofs.Laws.{refusal_of, accepted, RefusalNumber, refusal_number_lem}
@@ -110,5 +110,5 @@ module _ (a b : System) (s : State) (inp out list : List ℕ) where
   few_steps = omega (arith, (course_in_range a b s inp (length out) (length list)).steps)
 
   -- so of a run that starts with nothing held, 2·taken + written + 1
-  pub few_steps_free : s.held ≡ Nothing → let r = (run_of a b s inp out list).answer in run_steps a b s inp out list ≤ 2 * r.taken.0 + r.written.0 + 1
+  pub few_steps_free : s.held ≡ None → let r = (run_of a b s inp out list).answer in run_steps a b s inp out list ≤ 2 * r.taken.0 + r.written.0 + 1
   few_steps_free e = omega (arith, few_steps, ap held_count e)

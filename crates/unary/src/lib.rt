@@ -3,27 +3,27 @@
 #![tactic(auto)]
 
 ghost use Rattle.std.specs.Prelude.{◌≡◌, ◌+◌, ◌-◌, ◌<◌, ◌≤◌};
-ghost use Rattle.digits.specs.Orders.{lent, Columns, system_of};
+ghost use Rattle.digits.specs.Orders.{system_of};
 ghost use Rattle.states.specs.State.{held_count};
 ghost use Rattle.steps.specs.Step.{setting};
 ghost use Rattle.steps.specs.Made.{Ready, Recognised};
 ghost use Rattle.unary.specs.Run.{answered, ran, steps_of, run_of};
 
 use digits::System;
-use states::{Held, State, Stop};
+use states::{State, Stop};
 use steps::Kind;
 
-// The counts, kept apart: the source's input pointer and its output pointer, and how many divisors are listed.
-#[derive(Clone, Copy)]
+// The counts, kept apart (document 01: "The counts, kept apart"), so each has a type of its own: the source's input pointer and its output pointer, and how many divisors are listed.
+#[derive(Clone, Copy, Debug, PartialEq, Eq)]
 pub struct Taken(pub usize);
 
-#[derive(Clone, Copy)]
+#[derive(Clone, Copy, Debug, PartialEq, Eq)]
 pub struct Written(pub usize);
 
-#[derive(Clone, Copy)]
+#[derive(Clone, Copy, Debug, PartialEq, Eq)]
 pub struct Listed(pub usize);
 
-#[derive(Clone, Copy)]
+#[derive(Clone, Copy, Debug, PartialEq, Eq)]
 pub struct Answer {
     pub stop: Stop,
     pub taken: Taken,
@@ -38,12 +38,11 @@ fn ended(stop: Stop, i: usize, o: usize, k: usize, state: State) -> Answer
     requires { (k ≤ i + o + 1 - held_count state.held) × (i + o + 1 < 18446744073709551616) }
     ensures { result ≡ answered stop i o (i + o + 1 - held_count state.held - k) state }
 {
-    let held = state.held;
     Answer {
         stop,
         taken: Taken(i),
         written: Written(o),
-        listed: Listed(i + o + 1 - states::held_count(held) - k),
+        listed: Listed(i + o + 1 - states::held_count(state.held) - k),
         state,
     }
 }
@@ -53,23 +52,20 @@ fn ended(stop: Stop, i: usize, o: usize, k: usize, state: State) -> Answer
 fn run_judged(
     r: bool,
     b: bool,
-    input_count: usize,
-    input_columns: &[i16],
-    output_count: usize,
-    output_columns: &[i16],
+    inputs: &System,
+    outputs: &System,
     s: State,
     input: &[u8],
     output: &mut [u8],
     divisors: &mut [u64],
 ) -> Answer
-    requires { (Columns input_columns.now) × (Columns output_columns.now) × (Ready (setting (lent input_count input_columns.now) (lent output_count output_columns.now)) s) × (Recognised r b (setting (lent input_count input_columns.now) (lent output_count output_columns.now))) }
-    ensures { ran result output.new divisors.new ≡
-        steps_of (setting (lent input_count input_columns.now) (lent output_count output_columns.now)) s input.now output.old divisors.old }
+    requires { (Ready (setting (system_of inputs.now) (system_of outputs.now)) s) × (Recognised r b (setting (system_of inputs.now) (system_of outputs.now))) }
+    ensures { ran result output.new divisors.new ≡ steps_of (setting (system_of inputs.now) (system_of outputs.now)) s input.now output.old divisors.old }
 {
     let held = s.held;
     let k: usize = match held {
-        Held::Nothing => 1,
-        Held::Digit(_) => 0,
+        None => 1,
+        Some(_) => 0,
     };
     let mut st = s;
     let mut i: usize = 0;
@@ -78,10 +74,8 @@ fn run_judged(
         let m = one_step::step(
             r,
             b,
-            input_count,
-            input_columns,
-            output_count,
-            output_columns,
+            inputs,
+            outputs,
             st,
             input,
             i,
@@ -112,57 +106,31 @@ fn run_judged(
     }
 }
 
-// A run over systems that are lent, as the numbers of their digits. The systems and the state are judged first.
+// A run over systems that are lent. The systems and the state are judged first.
 pub fn run_lent(
-    input_count: usize,
-    input_columns: &[i16],
-    output_count: usize,
-    output_columns: &[i16],
+    inputs: &System,
+    outputs: &System,
     state: State,
     input: &[u8],
     output: &mut [u8],
     divisors: &mut [u64],
 ) -> Answer
-    requires { (Columns input_columns.now) × (Columns output_columns.now) }
-    ensures { ran result output.new divisors.new ≡
-        run_of (lent input_count input_columns.now) (lent output_count output_columns.now) state input.now output.old divisors.old }
+    ensures { ran result output.new divisors.new ≡ run_of (system_of inputs.now) (system_of outputs.now) state input.now output.old divisors.old }
 {
-    let number = judging::refusal(
-        input_count,
-        input_columns,
-        output_count,
-        output_columns,
-        state,
-    );
-    if number != 0 {
-        return Answer {
-            stop: Stop::Refused(number),
+    match judging::refusal(inputs, outputs, state) {
+        Err(refusal) => Answer {
+            stop: Stop::Refused(refusal.number()),
             taken: Taken(0),
             written: Written(0),
             listed: Listed(0),
             state,
-        };
+        },
+        Ok(_) => {
+            let r = built_in::both_r(input.len(), inputs, outputs);
+            let b = built_in::is_b(input.len(), outputs);
+            run_judged(r, b, inputs, outputs, state, input, output, divisors)
+        }
     }
-    let r = built_in::both_r(
-        input.len(),
-        input_count,
-        input_columns,
-        output_count,
-        output_columns,
-    );
-    let b = built_in::is_b(input.len(), output_count, output_columns);
-    run_judged(
-        r,
-        b,
-        input_count,
-        input_columns,
-        output_count,
-        output_columns,
-        state,
-        input,
-        output,
-        divisors,
-    )
 }
 
 // A run: bytes of the input are taken, digits are written to the output and divisors are listed until a step stops. Of any two systems, any state, any input, any output and
@@ -177,16 +145,5 @@ pub fn run(
 ) -> Answer
     ensures { ran result output.new divisors.new ≡ run_of (system_of inputs) (system_of outputs) state input.now output.old divisors.old }
 {
-    let input_columns = inputs.columns;
-    let output_columns = outputs.columns;
-    run_lent(
-        inputs.count,
-        &input_columns,
-        outputs.count,
-        &output_columns,
-        state,
-        input,
-        output,
-        divisors,
-    )
+    run_lent(&inputs, &outputs, state, input, output, divisors)
 }

@@ -5,7 +5,7 @@
 -- that a hypothesis shows only under a product is not inferred, and is written: with p : pos 0 <ℤ a and e : a *ℤ b ≡ a *ℤ c, `cancel_pos a b c p e : b ≡ c`.
 -- Elsewhere: ≤ is reflexive, < is not, and a < b ≤ c (`≤ℤ_refl`, `<ℤ_irrefl`, `<ℤ-≤ℤ_trans`, and `clash_ℤ` for two facts that can't both hold) in the kit's `lib.Signed`;
 -- antisymmetry (`≤-antisym`) and proofs by contradiction (`≤-by`, `<-by`) in proofs/Order.antt; what a test says in proofs/Test.antt.
--- Private: the cases of `product_ps` and `zero_product` (`factor_ps`, `turned-..`, `nought_ps`, `factor_zero`).
+-- Private: the cases of `product_ps` and `zero_product` (`factor_ps`, `turned_..`, `nought_ps`, `factor_zero`).
 use Rattle.whole.proofs.Base.{◌≡◌, ap, ◌⊎◌, inl, inr, ℕ, ◌≤◌, ◌<◌, zero-le, leb→le, le→leb, ltb→lt, lt→ltb, ℤ, pos, nat_abs, ◌*ℤ◌, ◌≤ℤ◌, ◌<ℤ◌, le_z_yes, lt_z_yes}
 use Rattle.whole.proofs.Polynomial.{◌⊗◌}
 use Rattle.whole.proofs.Law.{#}

@@ -2,7 +2,7 @@
 --
 -- specs/Divisor.antt defines it by Euclid's steps. Here: it divides both, every common divisor divides it, and Euclid's step as an equation.
 -- Then the four entries of a matrix: divided by their greatest common divisor they have none but 1 (`reduced`), and no other divisor leaves that (`reduced_only`). `Times4 k n m` is k·n = m, entry by entry.
--- Private: the laws by the number of steps (`by-..`), and those of one entry (`sizes`, `up`, `down`).
+-- Private: the laws by the number of steps (`by_..`), and those of one entry (`sizes`, `up`, `down`).
 use Rattle.whole.proofs.Base.{◌≡◌, sym, ◌∙◌, ap, subst, List, ℕ, zero, suc, ◌*◌, ◌/◌, ◌%◌, ◌≤◌, ◌<◌, ◌∣◌, arith, ℤ, pos, negsuc, neg_ℤ, nat_abs, ◌*ℤ◌, quot_z}
 use native.Mathlib.Nat as N
 use Rattle.whole.specs.Range.{at}

@@ -1,6 +1,7 @@
 -- The laws of `first`: what a loop meets at each turn (a hit, a miss, the end), what an answer says, and that it looks at nothing else than the numbers that it passes.
-use Rattle.whole.proofs.Base.{◌≡◌, refl, sym, ap, ◌∙◌, Bool, true, false, not, cond, ◌||◌, true≢false, false≢true, not-true, not-false, Option, none, some, ℕ, zero, suc, ◌+◌, ◌-◌, ◌<◌, ◌≤◌, arith, add-one, add-zero, ℕ_discrete}
+use Rattle.whole.proofs.Base.{◌≡◌, refl, sym, ap, ◌∙◌, Bool, true, false, not, cond, ◌&&◌, ◌||◌, true≢false, false≢true, not-true, not-false, Option, none, some, ℕ, zero, suc, ◌+◌, ◌-◌, ◌<◌, ◌≤◌, arith, add-one, add-zero, ℕ_discrete}
 use native.Mathlib.Nat.{sub-zero, zero-add}
+use Rattle.std.specs.List.{list_any, list_all, range_with_len}
 use Rattle.whole.specs.First.{first, found?, some_below?, every_below?}
 
 -- ---- a loop that searches the numbers below n from some place on, and stands at i: what it will find is what the whole search finds. It begins so, it goes on so where i
@@ -155,3 +156,23 @@ some_same t s n f = ap found? (first_same t s n 0 (λ a i k. f a (omega arith)))
 
 pub every_same : (t s : ℕ → Bool) (n : ℕ) → ((a : ℕ) → a < n → t a ≡ s a) → every_below? t n ≡ every_below? s n
 every_same t s n f = ap not (some_same (λ a. not (t a)) (λ a. not (s a)) n (λ a h. ap not (f a h)))
+
+-- ---- what the library's `any` and `all` look for among the k numbers from i on
+
+or_found : (b : Bool) {r : Bool} (i : ℕ) (o : Option ℕ) → r ≡ found? o → (b || r) ≡ found? (cond b (some i) o)
+or_found true i o e = refl
+or_found false i o e = e
+
+and_found : (b : Bool) {r : Bool} (i : ℕ) (o : Option ℕ) → r ≡ not (found? o) → (b && r) ≡ not (found? (cond (not b) (some i) o))
+and_found true i o e = e
+and_found false i o e = refl
+
+pub any_first : (t : ℕ → Bool) (k i : ℕ) → list_any t (range_with_len i k) ≡ found? (first t k i)
+unfolding first
+any_first t zero i = refl
+any_first t (suc k) i = let e : i + 1 ≡ suc i = omega arith in or_found (t i) i _ (any_first t k (i + 1) ∙ ap (λ (j : ℕ). found? (first t k j)) e)
+
+pub all_first : (t : ℕ → Bool) (k i : ℕ) → list_all t (range_with_len i k) ≡ not (found? (first (λ a. not (t a)) k i))
+unfolding first
+all_first t zero i = refl
+all_first t (suc k) i = let e : i + 1 ≡ suc i = omega arith in and_found (t i) i _ (all_first t k (i + 1) ∙ ap (λ (j : ℕ). not (found? (first (λ a. not (t a)) k j))) e)

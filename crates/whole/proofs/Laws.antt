@@ -24,6 +24,7 @@ pub use Rattle.whole.proofs.Divisor.{gcd_divides_left, gcd_divides_right, gcd_gr
 pub use Rattle.whole.proofs.Divisor.{Times, Times4, divided_times, up4, down4, one4, reduced, reduced_only}
 -- the first number that passes a test: a loop that searches, and what its answer says
 pub use Rattle.whole.proofs.First.{StandingFrom, begins_from, misses_from, hits_from, ends_from, Standing, begins, misses, hits, ends, Found, first_found, first_none, found_first, none_first, found_split, first_same}
+pub use Rattle.whole.proofs.First.{any_first, all_first}
 pub use Rattle.whole.proofs.First.{Passing, some_passes, none_passes, every_passes, one_fails, some_same, every_same}
 -- "0 passes, else the number decides"
 pub use Rattle.whole.proofs.Refusal.{passed, decided}

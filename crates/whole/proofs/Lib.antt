@@ -13,7 +13,7 @@
 --
 -- Begin with Worked. The provers need not be believed: `law` and `claim` are theorems, proved by what stands left of them, and the Search is not even that, since what it
 -- finds is tested. This is why they stand here and not in specs/, which holds only what a contract means.
--- The folders magnitude, quotient and +gcd prove the functions of src/lib.rt; `+` marks one that calls itself.
+-- The folder +gcd proves the one function of src/lib.rt that the check does not prove alone; `+` marks one that calls itself.
 pub mod Laws
 mod Base
 mod Ring

@@ -3,7 +3,7 @@
 -- A signed local holds bits, so that goals show `to_z w64 (of_z w64 z)`: the number z, stored in 64 bits and read back. Every operation asks that its result fits
 -- (`SFits w64 z`). This file says when a number fits, that it is then read back as it is, and what casts do.
 -- The short way through an expression is `Stands b u z`: where the machine has u, the number z is meant, and z lies within b of 0. For `a * d - b * c` with four numbers
--- within 1000, p = mul-stands (stored h1 tt) (stored h2 tt) tt and q likewise stand for the products, and `sub_ok p q tt` is what the difference asks. Each `tt` is a
+-- within 1000, p = mul_stands (stored h1 tt) (stored h2 tt) tt and q likewise stand for the products, and `sub_ok p q tt` is what the difference asks. Each `tt` is a
 -- test on bounds, that they are below 2^63.
 -- Private: `mag_le`.
 use Rattle.whole.proofs.Base.{◌≡◌, refl, sym, ap, ap₂, subst, subst₂, ◌∙◌, ℕ, ◌+◌, ◌*◌, ◌<◌, ◌≤◌, ◌^◌, lt_of_le_of_lt, le_refl, arith, T, ltb, ltb→lt, ℤ, pos, negsuc, nat_abs, ◌+ℤ◌, ◌-ℤ◌, ◌*ℤ◌, mag, ◌≤ℤ◌}
@@ -30,7 +30,7 @@ back h t = to_z-of_z {w = w64} (near_fits h t)
 pub near_back : {b : ℕ} {z : ℤ} → Near b z → T (ltb b (2 ^ 63)) → Near b (to_z w64 (of_z w64 z))
 near_back {b} h t = subst (Near b) (sym (back h t)) h
 
--- the same of a call's result, where the check hands out `.ok`; the second form has the number written, for `cc` and `simp`
+-- the same of a call's result, of which the check hands out the bound as `.type_inv`; the second form has the number written, for `cc` and `simp`
 pub ok_back : {z : ℤ} → mag z < 2 ^ 63 → to_z w64 (of_z w64 z) ≡ z
 ok_back h = to_z-of_z {w = w64} (record { sfits = h })
 

@@ -1,6 +1,6 @@
 -- The ring laws of ℤ that the kit's `lib.IntN` lacks: both distributive laws, the associative law of products, signs of products, and 1.
 --
--- `lib.IntN` has the laws of sums, and what a step up or down does to a product (`sucℤ-*ℤ`, `predℤ-*ℤ`). The laws here go by such steps: the private `ind` is the
+-- `lib.IntN` has the laws of sums, and what a step up or down does to a product (`suc_ℤ-*ℤ`, `pred_ℤ-*ℤ`). The laws here go by such steps: the private `ind` is the
 -- induction from 0 both ways. They are what proofs/Polynomial.antt is built on. Anywhere else an identity is one line by `law` (proofs/Law.antt), and no chain of these.
 use Rattle.whole.proofs.Base.{◌≡◌, sym, ◌∙◌, ap, ap₂, zero, suc, ℤ, pos, negsuc, neg_ℤ, ◌+ℤ◌, ◌*ℤ◌, ◌-ℤ◌, +ℤ_idl, +ℤ_idr, +ℤ_assoc, +ℤ_comm, +ℤ_invl, zero-*ℤ, *ℤ_comm}
 use lib.IntN.{suc_ℤ, pred_ℤ, +ℤ_invr, suc_ℤ-*ℤ, pred_ℤ-*ℤ, suc_ℤ-+ℤ, pred_ℤ-+ℤ}

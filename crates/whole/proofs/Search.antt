@@ -94,7 +94,7 @@ gauss zero rs = []
 gauss (suc n) [] = []
 gauss (suc n) (row k p bs ∷ rs) = elim (key p false) [ none ↦ row k p bs ∷ gauss n rs | some π ↦ gauss n (clear_at π (coef π p) p bs rs) ]
 
--- ---- the simplex method. `eqs` says which facts are equations
+-- ---- the simplex method. `es` says which facts are equations
 
 abbrev pub first_neg : ℕ → List Bool → List ℤ → Option ℕ
 first_neg i [] bs = none

@@ -10,11 +10,7 @@ ghost use Rattle.whole.specs.Divisor as D;
 pub fn magnitude(a: i64) -> u64
     ensures { result ≡ nat_abs a }
 {
-    if a < 0 {
-        ((-(a + 1)) as u64) + 1
-    } else {
-        a as u64
-    }
+    a.unsigned_abs()
 }
 
 // A number divided by a divisor of it. The sign stays.

@@ -1,45 +1,25 @@
--- Tests of equality, of whole numbers, of lists and of held digits, and that each says so.
-use Rattle.whole.proofs.Laws.{◌≡◌, refl, ap, ap₂, Bool, true, false, ◌&&◌, false≢true, List, [], ◌∷◌, eqb-true, eqb, ℤ, pos, negsuc, both_true}
-use Rattle.states.proofs.Laws.{Held, Nothing, Digit}
+-- What the tests of equality say, of whole numbers, of lists of them and of what is held; and of several tests, that each passes where all do.
+use Rattle.whole.proofs.Laws.{◌≡◌, refl, ap, Bool, true, ◌&&◌, false≢true, List, [], ◌∷◌, ℕ, eqb-true, eqb, ℤ, both_true}
+use Rattle.states.proofs.Laws.{Held, None, Some}
+use Rattle.std.specs.Ordering.{int_eq}
+use Rattle.std.specs.Option.{option_eq}
+use Rattle.std.proofs.lemmas.Bool.Decides.{Decides-int_eq}
+use lib.Pointwise.{pointwise, pointwise_decides, bytes_decides}
 
-abbrev pub same_number? : ℤ → ℤ → Bool
-same_number? (pos a) (pos b) = eqb a b
-same_number? (pos a) (negsuc b) = false
-same_number? (negsuc a) (pos b) = false
-same_number? (negsuc a) (negsuc b) = eqb a b
+pub same_number : (x y : ℤ) → int_eq x y ≡ true → x ≡ y
+same_number x y = (Decides-int_eq x y).0
 
-pub same_number : (x y : ℤ) → same_number? x y ≡ true → x ≡ y
-same_number (pos a) (pos b) e = ap pos (eqb-true a b e)
-same_number (pos a) (negsuc b) e = absurd (false≢true e)
-same_number (negsuc a) (pos b) e = absurd (false≢true e)
-same_number (negsuc a) (negsuc b) e = ap negsuc (eqb-true a b e)
+pub same_matrix : (m n : List ℤ) → pointwise int_eq m n ≡ true → m ≡ n
+same_matrix m n = (pointwise_decides Decides-int_eq m n).0
 
--- of two lists, by a test of their members
-abbrev pub same_list? : {A : Type 0} → (A → A → Bool) → List A → List A → Bool
-same_list? t [] [] = true
-same_list? t [] (y ∷ ys) = false
-same_list? t (x ∷ xs) [] = false
-same_list? t (x ∷ xs) (y ∷ ys) = t x y && same_list? t xs ys
+pub same_digits : (xs ys : List ℕ) → pointwise eqb xs ys ≡ true → xs ≡ ys
+same_digits xs ys = (bytes_decides xs ys).0
 
-pub same_list : {A : Type 0} (t : A → A → Bool) → ((x y : A) → t x y ≡ true → x ≡ y) → (xs ys : List A) → same_list? t xs ys ≡ true → xs ≡ ys
-same_list t says [] [] e = refl
-same_list t says [] (y ∷ ys) e = absurd (false≢true e)
-same_list t says (x ∷ xs) [] e = absurd (false≢true e)
-same_list t says (x ∷ xs) (y ∷ ys) e =
-    let p = both_true (t x y) (same_list? t xs ys) e in
-    ap₂ ◌∷◌ (says x y p.0) (same_list t says xs ys p.1)
-
-abbrev pub same_held? : Held → Held → Bool
-same_held? Nothing Nothing = true
-same_held? Nothing (Digit e) = false
-same_held? (Digit d) Nothing = false
-same_held? (Digit d) (Digit e) = eqb d e
-
-pub same_held : (h k : Held) → same_held? h k ≡ true → h ≡ k
-same_held Nothing Nothing e = refl
-same_held Nothing (Digit d) e = absurd (false≢true e)
-same_held (Digit d) Nothing e = absurd (false≢true e)
-same_held (Digit d) (Digit b) e = ap Digit (eqb-true d b e)
+pub same_held : (h k : Held) → option_eq eqb h k ≡ true → h ≡ k
+same_held None None e = refl
+same_held None (Some d) e = absurd (false≢true e)
+same_held (Some d) None e = absurd (false≢true e)
+same_held (Some d) (Some b) e = ap Some (eqb-true d b e)
 
 -- all of several tests, and each of them
 abbrev pub all? : List Bool → Bool

@@ -1,19 +1,22 @@
 -- The test of a claim, which computes, and the law that a claim which passes its test holds: one law for each of the eight kinds.
-use Rattle.whole.proofs.Laws.{◌≡◌, refl, Bool, true, not, false≢true, List, [], ◌∷◌, ℕ, eqb-true, not-true, eqb, length, take, replicate, ℤ, pos, ◌*ℤ◌, lt_z, lt_true}
+use Rattle.whole.proofs.Laws.{◌≡◌, refl, Bool, true, not, List, [], ◌∷◌, ℕ, eqb-true, not-true, eqb, length, take, replicate, ℤ, pos, ◌*ℤ◌, lt_z, lt_true}
 use Rattle.plane.proofs.Laws.{Pair, det, left, right, Interval}
 use Rattle.inclusion.proofs.Laws.{closed?, included?, included_says, not_included_says, closed_says}
 use Rattle.digits.proofs.Laws.{stored, system_of}
 use Rattle.expanding.proofs.Laws.{stretched, sent}
 use Rattle.admission.proofs.Laws.{refusal_number, admitted_says}
-use Rattle.states.proofs.Laws.{Nothing, end_number}
-use Rattle.opening.proofs.Laws.{Opening, Opens, OutOfRange, NotAbove, Start, opening_number, open_of, opens}
+use Rattle.states.proofs.Laws.{None, end_number}
+use Rattle.opening.proofs.Laws.{Start, opening_number, opening_0, open_of, opens}
 use Rattle.unary.proofs.Laws.{Ran}
 use Rattle.text.specs.Text.{bytes_of}
 use Rattle.printed.specs.Text.{printed}
 use Prim.Native.String.{String}
 use Rattle.worked.specs.Claims.{Job, Ending, judged_of, ran_of, file_of, IsIncluded, EndsOnly, IsOpened, IsJudged, IsRated, IsEnded, IsCancelled, IsPrinted}
 use Rattle.worked.specs.Claims.{Claim, included, ends_only, opening, judged, rated, ended, cancelled, prints, Says}
-use Rattle.worked.proofs.Same.{same_number?, same_number, same_list?, same_list, same_held?, same_held, all?, each}
+use Rattle.std.specs.Ordering.{int_eq}
+use Rattle.std.specs.Option.{option_eq}
+use lib.Pointwise.{pointwise}
+use Rattle.worked.proofs.Same.{same_number, same_matrix, same_digits, same_held, all?, each}
 
 -- ---- intervals
 
@@ -51,14 +54,8 @@ ends_hold i j e =
 
 -- ---- opening, and the judgement of a system
 
-abbrev same_matrix? : List ℤ → List ℤ → Bool
-same_matrix? = same_list? same_number?
-
-same_matrix : (m n : List ℤ) → same_matrix? m n ≡ true → m ≡ n
-same_matrix = same_list same_number? same_number
-
 abbrev opening_tests : Start → ℕ → List ℤ → List Bool
-opening_tests s number x = eqb (opening_number s.opening) number ∷ same_matrix? s.state.matrix x ∷ same_held? s.state.held Nothing ∷ []
+opening_tests s number x = eqb (opening_number s.opening) number ∷ pointwise int_eq s.state.matrix x ∷ option_eq eqb s.state.held None ∷ []
 
 opening_holds : (m : List ℤ) (number : ℕ) (x : List ℤ) → all? (opening_tests (open_of m) number x) ≡ true → IsOpened m number x
 opening_holds m number x e =
@@ -67,14 +64,14 @@ opening_holds m number x e =
       answer = eqb-true (opening_number (open_of m).opening) number p.0;
       reason = (opens m (open_of m).opening).0 refl;
       matrix = same_matrix (open_of m).state.matrix x p.1.0;
-      held = same_held (open_of m).state.held Nothing p.1.1.0;
+      held = same_held (open_of m).state.held None p.1.1.0;
     }
 
 judged_holds : (rows : List (List ℤ)) (number : ℕ) → eqb (refusal_number (judged_of rows)) number ≡ true → IsJudged rows number
 judged_holds rows number e = record { answer = eqb-true (refusal_number (judged_of rows)) number e; reason = admitted_says (system_of (stored rows)) }
 
 abbrev rated_tests : List ℤ → List ℤ → Pair → ℕ → ℕ → List Bool
-rated_tests f w z over under = lt_z (pos 0) (det (left w) z *ℤ det z (right w)) ∷ same_number? (stretched f z) (pos over) ∷ same_number? (sent f z) (pos under) ∷ []
+rated_tests f w z over under = lt_z (pos 0) (det (left w) z *ℤ det z (right w)) ∷ int_eq (stretched f z) (pos over) ∷ int_eq (sent f z) (pos under) ∷ []
 
 rated_holds : (rows : List (List ℤ)) (digit : ℕ) (z : Pair) (over under : ℕ) → let s = system_of (stored rows) in
     all? (rated_tests (s.transformation digit) (s.interval digit) z over under) ≡ true → IsRated rows digit z over under
@@ -90,52 +87,47 @@ rated_holds rows digit z over under e =
 
 -- ---- a job's run
 
-opened : (v : Opening) → eqb (opening_number v) 0 ≡ true → v ≡ Opens
-opened Opens e = refl
-opened OutOfRange e = absurd (false≢true e)
-opened NotAbove e = absurd (false≢true e)
-
 abbrev ended_tests : Start → Ran → Ending → List Bool
 ended_tests s r e =
     eqb (opening_number s.opening) 0 ∷
     eqb (end_number r.answer.stop) e.number ∷
     eqb r.answer.taken.0 e.taken ∷
     eqb r.answer.written.0 (length e.digits) ∷
-    same_list? eqb (take r.answer.written.0 r.output) e.digits ∷
-    same_matrix? r.answer.state.matrix e.matrix ∷
-    same_held? r.answer.state.held e.held ∷ []
+    pointwise eqb (take r.answer.written.0 r.output) e.digits ∷
+    pointwise int_eq r.answer.state.matrix e.matrix ∷
+    option_eq eqb r.answer.state.held e.held ∷ []
 
 ended_holds : (j : Job) (e : Ending) → all? (ended_tests (open_of j.matrix) (ran_of j) e) ≡ true → IsEnded j e
 ended_holds j e t =
     let p = each (ended_tests (open_of j.matrix) (ran_of j) e) t in
     let q = p.1.1.1 in
     record {
-      opens = opened (open_of j.matrix).opening p.0;
+      opens = opening_0 (open_of j.matrix).opening (eqb-true (opening_number (open_of j.matrix).opening) 0 p.0);
       number = eqb-true (end_number (ran_of j).answer.stop) e.number p.1.0;
       taken = eqb-true (ran_of j).answer.taken.0 e.taken p.1.1.0;
       written = eqb-true (ran_of j).answer.written.0 (length e.digits) q.0;
-      digits = same_list eqb eqb-true (take (ran_of j).answer.written.0 (ran_of j).output) e.digits q.1.0;
+      digits = same_digits (take (ran_of j).answer.written.0 (ran_of j).output) e.digits q.1.0;
       matrix = same_matrix (ran_of j).answer.state.matrix e.matrix q.1.1.0;
       held = same_held (ran_of j).answer.state.held e.held q.1.1.1.0;
     }
 
 abbrev cancelled_tests : Ran → List ℕ → List Bool
-cancelled_tests r ds = eqb r.answer.listed.0 (length ds) ∷ same_list? eqb (take r.answer.listed.0 r.divisors) ds ∷ []
+cancelled_tests r ds = eqb r.answer.listed.0 (length ds) ∷ pointwise eqb (take r.answer.listed.0 r.divisors) ds ∷ []
 
 cancelled_holds : (j : Job) (ds : List ℕ) → all? (cancelled_tests (ran_of j) ds) ≡ true → IsCancelled j ds
 cancelled_holds j ds t =
     let p = each (cancelled_tests (ran_of j) ds) t in
-    record { listed = eqb-true (ran_of j).answer.listed.0 (length ds) p.0; divisors = same_list eqb eqb-true (take (ran_of j).answer.listed.0 (ran_of j).divisors) ds p.1.0 }
+    record { listed = eqb-true (ran_of j).answer.listed.0 (length ds) p.0; divisors = same_digits (take (ran_of j).answer.listed.0 (ran_of j).divisors) ds p.1.0 }
 
 -- ---- a job's file
 
 abbrev prints_tests : Job → ℕ → String → List Bool
-prints_tests j bytes lines = eqb (length (file_of j)) bytes ∷ same_list? eqb (printed (file_of j) (replicate j.room 0)) (bytes_of lines) ∷ []
+prints_tests j bytes lines = eqb (length (file_of j)) bytes ∷ pointwise eqb (printed (file_of j) (replicate j.room 0)) (bytes_of lines) ∷ []
 
 prints_holds : (j : Job) (bytes : ℕ) (lines : String) → all? (prints_tests j bytes lines) ≡ true → IsPrinted j bytes lines
 prints_holds j bytes lines t =
     let p = each (prints_tests j bytes lines) t in
-    record { size = eqb-true (length (file_of j)) bytes p.0; text = same_list eqb eqb-true (printed (file_of j) (replicate j.room 0)) (bytes_of lines) p.1.0 }
+    record { size = eqb-true (length (file_of j)) bytes p.0; text = same_digits (printed (file_of j) (replicate j.room 0)) (bytes_of lines) p.1.0 }
 
 -- ---- any claim
 

@@ -12,7 +12,7 @@ use Rattle.admission.specs.Admitted.{SystemCase}
 use Rattle.digits.specs.Orders.{system_of}
 use Rattle.digits.specs.BuiltIn.{stored}
 use Rattle.admission.specs.Types.{Admission}
-use Rattle.states.specs.Types.{Held, Nothing}
+use Rattle.states.specs.Types.{Held, None}
 use Rattle.opening.specs.Types.{Opens}
 use Rattle.states.specs.State.{end_number}
 use Rattle.opening.specs.Opening.{opening_number, open_of, OpeningCase}
@@ -72,7 +72,7 @@ pub record IsOpened (m : List ℤ) (number : ℕ) (x : List ℤ) : Type 0 where
   pub answer : opening_number (open_of m).opening ≡ number
   pub reason : OpeningCase m (open_of m).opening
   pub matrix : (open_of m).state.matrix ≡ x
-  pub held : (open_of m).state.held ≡ Nothing
+  pub held : (open_of m).state.held ≡ None
 
 -- the judgement of a system answers this number, 0 or a refusal's, for the reason that document 01 gives
 pub record IsJudged (rows : List (List ℤ)) (number : ℕ) : Type 0 where

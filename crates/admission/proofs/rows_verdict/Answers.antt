@@ -1,85 +1,57 @@
 -- `admission::rows_verdict` meets its contract: a search for the first row that is refused; where there is none, every number is small enough for the tests of the cover and of expanding.
-use Rattle.whole.proofs.Laws.{◌≡◌, sym, ap, ap₂, ◌∙◌, Bool, not, not-true, not-false, cond, none, ℕ, ◌-◌, arith, eq-eqb, ne_eqb, first, Standing, begins, misses, hits, ends, first_none}
-use Rattle.digits.proofs.Laws.{System, lent, DigitThere, digit_there}
+use Rattle.whole.proofs.Laws.{◌≡◌, sym, ap, ap₂, ◌∙◌, Bool, none, arith, first, misses, hits, ends, first_none}
+use Rattle.digits.proofs.Laws.{System, system_of}
+use Rattle.cover.proofs.Laws.{covered?}
 use Rattle.expanding.proofs.Laws.{all_expand?}
-use Rattle.admission.specs.Types.{Admitted, NotExpanding}
-use Rattle.admission.specs.Admission.{refusal_number, refused?, row_verdict, verdict_of_row, behind_rows, first_verdict, rows_verdict}
+use Rattle.admission.specs.Types.{Err}
+use Rattle.admission.specs.Admission.{refused?, row_verdict, behind_rows, first_verdict, rows_verdict}
 use Rattle.admission.specs.Admitted.{Digits}
+use Rattle.admission.proofs.Numbers.{refused}
 use Rattle.admission.proofs.AdmittedSays.{digit_says, small, small_rows}
 use Rattle.admission.proofs.rows_verdict.Invariants.{test}
-use Rattle.admission.proofs.rows_verdict.Goals.{After-all_expand, After-covered, After-loop-a, After-refusal_number, After-row_verdict-v, In-loop-a, Start}
+use Rattle.std.proofs.Common.{rules}
 use Rattle.admission.proofs.rows_verdict.Goals as goal
 
--- the system that is judged
-abbrev of : Start → System
-of c = lent c.args.n c.args.columns.now
-
-there : (c : In-loop-a) → DigitThere c.args.columns.now c.loop-a.a
-there c = let p = c.requires in digit_there p.0 p.1 c.loop-a-test.true
-
--- what the calls in the loop say: the verdict of row a, and whether it is refused
-verdict : (c : After-row_verdict-v) → let l = c.before.before.before.before in c.row_verdict-v.result ≡ verdict_of_row (of l.before) l.loop-a.a
-verdict c = c.row_verdict-v.ensures ∙ ap₂ row_verdict c.transformation.ensures c.interval.ensures
-
-number : (c : After-refusal_number) → let l = c.before.before.before.before.before in
-    c.refusal_number.result ≡ refusal_number (verdict_of_row (of l.before) l.loop-a.a)
-number c = c.refusal_number.ensures ∙ ap refusal_number (verdict c.before)
-
-pub returns-then-refusal_number-ne0 : goal.returns-then-refusal_number-ne0
+pub returns-in_err-row_verdict : goal.returns-in_err-row_verdict
 unfolding rows_verdict
-returns-then-refusal_number-ne0 c =
-    let r = c.before in
-    let l = r.before.before.before.before in
-    let e = hits l.loop-a.invariant l.loop-a-test.true (ap not (ne_eqb _ 0 (λ z. c.if-refusal_number-ne0.true (number r ∙ z)))) in
-    verdict r.before ∙ sym (ap (first_verdict (of l.before.before)) e)
+returns-in_err-row_verdict c =
+    let s = system_of c.args.system.now in
+    let v = c.row_verdict.ensures ∙ ap₂ row_verdict c.transformation.ensures c.interval.ensures in
+    let r = c.in_err-row_verdict.field-0.0 in
+    let e = c.in_err-row_verdict.was in
+    let f : c.from_residual.result ≡ Err r = search rules in
+    let found = hits c.loop-a.invariant c.loop-a-test.true (ap refused? (sym v ∙ e) ∙ refused r) in
+    f ∙ sym e ∙ v ∙ sym (ap (first_verdict s) found)
 
 pub loop-a-preserved : goal.loop-a-preserved
 loop-a-preserved c =
-    let r = c.before in
-    let l = r.before.before.before.before in
-    misses l.loop-a.invariant l.loop-a-test.true (ap not (eq-eqb _ 0 (sym (number r) ∙ c.if-refusal_number-ne0.false)))
+    let v = c.row_verdict.ensures ∙ ap₂ row_verdict c.transformation.ensures c.interval.ensures in
+    misses c.loop-a.invariant c.loop-a-test.true (ap refused? (sym v ∙ c.in_ok-row_verdict.was))
 
--- no row was refused
-none_left : (c : After-loop-a) → first (test (of c.before.before)) c.args.n 0 ≡ none
-none_left c = ends c.loop-a.invariant c.loop-a-test.false
+-- no row was refused: all are digits, and what is asked behind the rows decides
+module _ (s : System) (left : first (test s) s.count 0 ≡ none) where
+  all_digits : Digits s
+  all_digits a h = digit_says s a (first_none (test s) s.count 0 left a (omega arith) (omega arith))
 
-all_digits : (c : After-loop-a) → Digits (of c.before.before)
-all_digits c a h =
-    let s = of c.before.before in
-    digit_says s a (first_none (test s) s.count 0 (none_left c) a (omega arith) (omega arith))
+  behind : {t e : Bool} → t ≡ covered? s → e ≡ all_expand? s → behind_rows t e ≡ rows_verdict s
+  unfolding rows_verdict
+  behind p q = ap₂ behind_rows p q ∙ sym (ap (first_verdict s) left)
 
 pub covered-requires : goal.covered-requires
-covered-requires c = let b = c.before.before in (b.requires.0, b.requires.1, small (of b) (all_digits c))
+covered-requires c = let s = system_of c.args.system.now in (c.requires, small s (all_digits s (ends c.loop-a.invariant c.loop-a-test.false)))
 
 pub all_expand-requires : goal.all_expand-requires
-all_expand-requires c = let b = c.before.before.before.before in (b.requires.0, b.requires.1, small_rows (of b) (all_digits c.before.before))
-
--- so what is asked behind the rows decides, as the code has it
-behind : (c : After-covered) {e : Bool} → let s = of c.before.before.before in e ≡ all_expand? s → behind_rows c.covered.result e ≡ rows_verdict s
-unfolding rows_verdict
-behind c q = ap₂ behind_rows c.covered.ensures q ∙ sym (ap (first_verdict (of c.before.before.before)) (none_left c.before))
+all_expand-requires c = let s = system_of c.args.system.now in (c.requires, small_rows s (all_digits s (ends c.loop-a.invariant c.loop-a-test.false)))
 
 pub returns-then-not-covered : goal.returns-then-not-covered
 returns-then-not-covered c =
-    let r = c.before in
-    ap (λ t. behind_rows t (all_expand? (of r.before.before.before))) (sym (c.if-not-covered.true)) ∙ behind r (λ i. all_expand? (of r.before.before.before))
-
-expanded : (c : After-all_expand) {e : Bool} → c.all_expand.result ≡ e → cond e Admitted NotExpanding ≡ rows_verdict (of c.before.before.before.before.before)
-expanded c q =
-    let r = c.before.before in
-    ap₂ behind_rows (sym (c.if-not-covered.false)) (sym q) ∙ behind r c.all_expand.ensures
-
-pub loop-a-init : goal.loop-a-init
-loop-a-init c = begins
-
-pub transformation-requires : goal.transformation-requires
-transformation-requires c = there c
-
-pub interval-requires : goal.interval-requires
-interval-requires c = there c.before
+    let s = system_of c.args.system.now in
+    behind s (ends c.loop-a.invariant c.loop-a-test.false) (sym c.if-not-covered.true ∙ c.covered.ensures) (λ i. all_expand? s)
 
 pub returns-then-not-all_expand : goal.returns-then-not-all_expand
-returns-then-not-all_expand c = let x = c.before in expanded x (c.if-not-all_expand.true)
+returns-then-not-all_expand c =
+    behind _ (ends c.loop-a.invariant c.loop-a-test.false) (sym c.if-not-covered.false ∙ c.covered.ensures) (sym c.if-not-all_expand.true ∙ c.all_expand.ensures)
 
 pub returns : goal.returns
-returns c = let x = c.before in expanded x (c.if-not-all_expand.false)
+returns c =
+    behind _ (ends c.loop-a.invariant c.loop-a-test.false) (sym c.if-not-covered.false ∙ c.covered.ensures) (sym c.if-not-all_expand.false ∙ c.all_expand.ensures)

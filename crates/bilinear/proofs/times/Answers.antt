@@ -6,16 +6,14 @@ use Rattle.bilinear.specs.Form.{of_halves, times_form}
 use Rattle.bilinear.proofs.Sizes.{front_within, back_within}
 use Rattle.bilinear.proofs.times.Goals as goal
 
+pub multiply-requires : goal.multiply-requires
+multiply-requires c = factors_fit c.requires.0 (subst (Within 1000000000) (sym c.half_from.ensures) (front_within c.requires.1)) tt
+
+pub multiply-requires-2 : goal.multiply-requires-2
+multiply-requires-2 c = factors_fit c.requires.0 (subst (Within 1000000000) (sym c.half_from-2.ensures) (back_within c.requires.1)) tt
+
 pub returns : goal.returns
 unfolding times_form multiply_of
 returns c =
-    let m2 = c.before in
-    let m1 = m2.before.before in
-    let p = m1.args.p in
-    c.of_halves.ensures ∙ ap₂ of_halves (m1.multiply.ensures ∙ ap (multiply_of p) m1.front.ensures) (m2.multiply-2.ensures ∙ ap (multiply_of p) m2.back.ensures)
-
-pub multiply-requires : goal.multiply-requires
-multiply-requires c = let s = c.before in factors_fit s.requires.0 (subst (Within 1000000000) (sym c.front.ensures) (front_within s.requires.1)) tt
-
-pub multiply-requires-2 : goal.multiply-requires-2
-multiply-requires-2 c = let s = c.before.before.before in factors_fit s.requires.0 (subst (Within 1000000000) (sym c.back.ensures) (back_within s.requires.1)) tt
+    let p = c.args.p in
+    c.of_halves.ensures ∙ ap₂ of_halves (c.multiply.ensures ∙ ap (multiply_of p) c.half_from.ensures) (c.multiply-2.ensures ∙ ap (multiply_of p) c.half_from-2.ensures)

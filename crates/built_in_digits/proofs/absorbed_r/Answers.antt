@@ -16,29 +16,29 @@ each : (x : List ℤ) → (multiply_of x (pos 1 ∷ pos 0 ∷ pos 1 ∷ pos 1 �
 unfolding transformation_by four_by
 each x = (refl, refl, refl, refl)
 
-pub returns-then-a-eq0 : goal.returns-then-a-eq0
-returns-then-a-eq0 c = let x = c.args.x in one_digit (of x) c.if-a-eq0.true (c.multiply.ensures ∙ (each x).0)
+pub returns-in-0 : goal.returns-in-0
+returns-in-0 c = let x = c.args.x in one_digit (of x) c.in-0.is (c.multiply.ensures ∙ (each x).0)
 
-pub returns-then-a-eq1 : goal.returns-then-a-eq1
-returns-then-a-eq1 c = let x = c.args.x in one_digit (of x) c.if-a-eq1.true (c.multiply-then-a-eq1.ensures ∙ (each x).1)
+pub returns-in-1 : goal.returns-in-1
+returns-in-1 c = let x = c.args.x in one_digit (of x) c.in-1.is (c.multiply-in-1.ensures ∙ (each x).1)
 
-pub returns-then-a-eq2 : goal.returns-then-a-eq2
-returns-then-a-eq2 c = let x = c.args.x in one_digit (of x) c.if-a-eq2.true (c.multiply-then-a-eq2.ensures ∙ (each x).2)
+pub returns-in-2 : goal.returns-in-2
+returns-in-2 c = let x = c.args.x in one_digit (of x) c.in-2.is (c.multiply-in-2.ensures ∙ (each x).2)
 
-pub returns : goal.returns
-returns c =
-    let s = c.before.before.before.before in
-    let last : s.args.a ≡ 3 = omega (arith, s.requires.1, c.if-a-eq2.false, c.if-a-eq1.false, c.if-a-eq0.false) in
-    one_digit (of s.args.x) last (c.multiply-2.ensures ∙ (each s.args.x).3)
+pub returns-in_default : goal.returns-in_default
+returns-in_default c =
+    let x = c.args.x in
+    let last : c.args.a ≡ 3 = omega arith in
+    one_digit (of x) last (c.multiply-in_default.ensures ∙ (each x).3)
 
 pub multiply-requires : goal.multiply-requires
 multiply-requires c = factors_fit {t = 1} c.requires.0 (search rules) tt
 
-pub multiply-requires-then-a-eq1 : goal.multiply-requires-then-a-eq1
-multiply-requires-then-a-eq1 c = factors_fit {t = 1} c.requires.0 (search rules) tt
+pub multiply-requires-in-1 : goal.multiply-requires-in-1
+multiply-requires-in-1 c = factors_fit {t = 1} c.requires.0 (search rules) tt
 
-pub multiply-requires-then-a-eq2 : goal.multiply-requires-then-a-eq2
-multiply-requires-then-a-eq2 c = factors_fit {t = 1} c.requires.0 (search rules) tt
+pub multiply-requires-in-2 : goal.multiply-requires-in-2
+multiply-requires-in-2 c = factors_fit {t = 1} c.requires.0 (search rules) tt
 
-pub multiply-requires-2 : goal.multiply-requires-2
-multiply-requires-2 c = factors_fit {t = 1} c.requires.0 (search rules) tt
+pub multiply-requires-in_default : goal.multiply-requires-in_default
+multiply-requires-in_default c = factors_fit {t = 1} c.requires.0 (search rules) tt

@@ -4,10 +4,10 @@ use Rattle.cancelling.proofs.FromDivisor.{divides, cancelled, kept}
 use Rattle.cancelling.proofs.cancel.Goals as goal
 
 pub returns-then-g-eq1 : goal.returns-then-g-eq1
-returns-then-g-eq1 c = let d = c.before in kept d.args.m (omega arith) (sym c.if-g-eq1.true ∙ d.divisor-g.ensures)
+returns-then-g-eq1 c = rw c.kept.ensures (kept c.args.m (omega arith) (sym c.if-g-eq1.true ∙ c.divisor-g.ensures))
 
 pub quotients-requires : goal.quotients-requires
-quotients-requires c = let s = c.before.before in divides s.args.m s.requires.0 s.requires.1 c.divisor-g.ensures
+quotients-requires c = divides c.args.m c.requires.0 c.requires.1 c.divisor-g.ensures
 
 pub returns : goal.returns
-returns c = let d = c.before.before in cancelled d.args.m d.divisor-g.ensures c.quotients.ensures
+returns c = cancelled c.args.m c.divisor-g.ensures c.quotients.ensures

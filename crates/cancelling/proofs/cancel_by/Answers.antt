@@ -5,15 +5,14 @@ use Rattle.cancelling.proofs.FromDivisor.{divides, cancelled, kept}
 use Rattle.cancelling.proofs.FromMultiple.{of_one, of_multiple}
 use Rattle.cancelling.proofs.cancel_by.Goals as goal
 
-pub returns-then-d-eq1 : goal.returns-then-d-eq1
-returns-then-d-eq1 c = let s = c.before in kept s.args.m (omega arith) (of_one s.args.m s.requires.2 c.if-d-eq1.true)
+pub returns-in-1 : goal.returns-in-1
+returns-in-1 c = rw c.kept.ensures (kept c.args.m (omega arith) (of_one c.args.m c.requires.2 c.in-1.is))
 
 pub halved-requires : goal.halved-requires
-halved-requires c = let s = c.before.before in subst (λ (k : ℕ). gcd4 s.args.m ∣ k) c.if-d-eq2.true s.requires.2
+halved-requires c = subst (λ (k : ℕ). gcd4 c.args.m ∣ k) c.in-2.is c.requires.2
 
 pub quotients-requires : goal.quotients-requires
-quotients-requires c = let s = c.before.before.before in divides s.args.m s.requires.0 (pos_of_dvd_of_pos s.requires.2 s.requires.1) (c.shared-common.ensures ∙ of_multiple s.args.m s.args.d s.requires.2)
+quotients-requires c = divides c.args.m c.requires.0 (pos_of_dvd_of_pos c.requires.2 c.requires.1) (c.shared-common.ensures ∙ of_multiple c.args.m c.args.d c.requires.2)
 
-pub returns : goal.returns
-returns c = let d = c.before in let s = d.before.before.before in
-    cancelled s.args.m (d.shared-common.ensures ∙ of_multiple s.args.m s.args.d s.requires.2) c.quotients.ensures
+pub returns-in_default : goal.returns-in_default
+returns-in_default c = cancelled c.args.m (c.shared-common.ensures ∙ of_multiple c.args.m c.args.d c.requires.2) c.quotients.ensures

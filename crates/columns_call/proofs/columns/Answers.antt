@@ -1,26 +1,28 @@
--- `columns_call::columns` meets its contract: the number decides, and where it is 0 the columns are written.
-use Rattle.whole.proofs.Laws.{◌≡◌, sym, ap, ◌∙◌, unless_refused, passed, decided}
+-- `columns_call::columns` meets its contract: a wrong length is refused, then a count that no system has, and else the columns are written.
+use Rattle.whole.proofs.Laws.{◌≡◌, sym, ap, ◌∙◌, true, List, ◌/◌, ◌%◌, ℤ, length, eq-eqb, ne_eqb, unless_refused, passed}
 use Rattle.digits.proofs.Laws.{columns_of}
-use Rattle.numbers.proofs.Laws.{wrote}
-use Rattle.numbers.specs.Numbers.{Wrote}
-use Rattle.columns_call.specs.ColumnsCall.{columns_call_of}
-use Rattle.columns_call.proofs.Turned.{columns_turned}
-use Rattle.columns_call.proofs.columns.Goals.{After-turn_number-number, Else-number-ne0}
+use Rattle.numbers.proofs.Laws.{wrote, refused_by}
+use Rattle.columns_call.specs.ColumnsCall.{turn_number, columns_call_of}
+use Rattle.columns_call.proofs.columns.Goals.{then-rows-ne0-via-then-rows-ne0, then-rows-ne0-via-else-rows-ne0+then-columns-ne128}
 use Rattle.columns_call.proofs.columns.Goals as goal
 
-judged : (n : After-turn_number-number) → let a = n.args in
-    columns_call_of a.rows.now a.columns.now ≡ unless_refused n.turn_number-number.result (λ k. wrote k a.columns.now) (wrote 0 (columns_of a.rows.now))
+pub returns-then-rows-ne0 : goal.returns-then-rows-ne0
+unfolding columns_call_of unless_refused
+returns-then-rows-ne0 c = elim c.then-rows-ne0.branch [
+  | then-rows-ne0-via-then-rows-ne0 w ↦ rw (ne_eqb _ _ w.if-rows-ne0.true)
+  | then-rows-ne0-via-else-rows-ne0+then-columns-ne128 w ↦ rw (eq-eqb _ _ w.if-rows-ne0.false, ne_eqb _ _ w.if-columns-ne128.true)
+]
+
+-- where the lengths are right, the count decides
+judged : (rows old : List ℤ) → length rows % 8 ≡ 0 → length old ≡ 128 →
+    columns_call_of rows old ≡ unless_refused (turn_number true (length rows / 8)) (λ k. wrote k old) (wrote 0 (columns_of rows))
 unfolding columns_call_of
-judged n = rw (← n.turn_number-number.ensures)
+judged rows old whole room = rw (eq-eqb (length rows % 8) 0 whole, eq-eqb (length old) 128 room)
 
-turned : (c : Else-number-ne0) → let a = c.args in columns_call_of a.rows.now a.columns.now ≡ wrote 0 (columns_of a.rows.now)
-turned c = judged c.before ∙ passed _ _ c.if-number-ne0.false
-
-pub in_columns-requires : goal.in_columns-requires
-in_columns-requires c = record { size = (columns_turned _ _ (ap (λ (w : Wrote). w.number) (turned c.before))).room }
+pub returns-in-Err : goal.returns-in-Err
+returns-in-Err c =
+    sym (judged _ _ c.if-rows-ne0.false c.if-columns-ne128.false
+    ∙ rw (← c.in-Err.ensures) (refused_by c.in-Err.refusal _ _ (c.from.ensures ∙ c.number.ensures)))
 
 pub returns : goal.returns
-returns c = ap (wrote 0) c.in_columns.ensures ∙ sym (turned c.before.before.before)
-
-pub returns-then-number-ne0 : goal.returns-then-number-ne0
-returns-then-number-ne0 c = sym (judged c.before ∙ decided _ _ c.if-number-ne0.true)
+returns c = ap (wrote 0) c.in_columns.ensures ∙ sym (judged _ _ c.if-rows-ne0.false c.if-columns-ne128.false ∙ passed _ _ (sym c.in_default.ensures))

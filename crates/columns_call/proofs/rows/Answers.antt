@@ -1,45 +1,34 @@
--- `columns_call::rows` meets its contract: the number decides, and where it is 0 the rows are written.
-use Rattle.whole.proofs.Laws.{◌≡◌, refl, sym, ap, ◌∙◌, Bool, true, false, ◌&&◌, ℕ, ◌*◌, ◌/◌, ◌%◌, arith, eqb, eq-eqb, ne_eqb, ℕ_discrete, length, unless_refused, passed, decided}
+-- `columns_call::rows` meets its contract: a wrong length is refused, then a count that no system has, and else the rows are written.
+use Rattle.whole.proofs.Laws.{◌≡◌, sym, ap, ◌∙◌, true, List, ℕ, ◌*◌, ◌/◌, ◌%◌, ℤ, arith, eq-eqb, ne_eqb, length, unless_refused, passed}
 use Rattle.digits.proofs.Laws.{rows_in, rows_of}
-use Rattle.numbers.proofs.Laws.{lent_system, wrote}
-use Rattle.numbers.specs.Numbers.{Wrote, columns?}
+use Rattle.numbers.proofs.Laws.{lent_system, wrote, refused_by}
 use Rattle.columns_call.specs.ColumnsCall.{turn_number, rows_call}
-use Rattle.columns_call.proofs.Turned.{rows_turned}
-use Rattle.columns_call.proofs.rows.Goals.{After-turn_number-number, Else-number-ne0}
+use Rattle.columns_call.proofs.rows.Goals.{then-columns-ne128-via-then-columns-ne128, then-columns-ne128-via-else-columns-ne128+then-rows-ne0, then-columns-ne128-via-else-columns-ne128+else-rows-ne0+then-rows-digits}
 use Rattle.columns_call.proofs.rows.Goals as goal
 
--- a length is 8·n exactly if it is a multiple of 8, of which an eighth is n
-eighth : (t : Bool) (l n : ℕ) → (t && eqb (l % 8) 0 && eqb (l / 8) n) ≡ (t && eqb l (8 * n))
-eighth true l n = elim (ℕ_discrete l (8 * n)) [
-  | yes e ↦ let whole : l % 8 ≡ 0 = omega arith in let part : l / 8 ≡ n = omega arith in rw (eq-eqb (l % 8) 0 whole, eq-eqb (l / 8) n part, eq-eqb l (8 * n) e)
-  | no f ↦ sym (ne_eqb l (8 * n) f ∙ sym (other (ℕ_discrete (l % 8) 0) f))
-]
-  where
-    other : Dec (l % 8 ≡ 0) → (l ≡ 8 * n → ⊥) → (eqb (l % 8) 0 && eqb (l / 8) n) ≡ false
-    other (yes e) f = rw (eq-eqb (l % 8) 0 e) (ne_eqb (l / 8) n (λ g. f (omega arith)))
-    other (no g) f = rw (ne_eqb (l % 8) 0 g)
-eighth false l n = refl
+pub returns-then-columns-ne128 : goal.returns-then-columns-ne128
+unfolding rows_call unless_refused
+returns-then-columns-ne128 c =
+    let a = c.args in elim c.then-columns-ne128.branch [
+      | then-columns-ne128-via-then-columns-ne128 w ↦ rw (ne_eqb _ _ w.if-columns-ne128.true)
+      | then-columns-ne128-via-else-columns-ne128+then-rows-ne0 w ↦ rw (eq-eqb _ _ w.if-columns-ne128.false, ne_eqb (length a.rows.now) (8 * a.digits) (λ e. w.if-rows-ne0.true (omega (arith, e))))
+      | then-columns-ne128-via-else-columns-ne128+else-rows-ne0+then-rows-digits w ↦ rw (eq-eqb _ _ w.if-columns-ne128.false, ne_eqb (length a.rows.now) (8 * a.digits) (λ e. w.if-rows-digits.true (omega (arith, e))))
+    ]
 
-judged : (n : After-turn_number-number) → let a = n.args in let s = lent_system a.digits a.columns.now in
-    rows_call s a.rows.now ≡ unless_refused n.turn_number-number.result (λ k. wrote k a.rows.now) (wrote 0 (rows_of s))
+-- where the lengths are right, the count decides
+judged : (digits : ℕ) (columns old : List ℤ) → length columns ≡ 128 → length old % 8 ≡ 0 → length old / 8 ≡ digits → let s = lent_system digits columns in
+    (length old ≡ 8 * digits) × (rows_call s old ≡ unless_refused (turn_number true digits) (λ k. wrote k old) (wrote 0 (rows_of s)))
 unfolding rows_call
-judged n =
-    let a = n.args in
-    rw (← (n.turn_number-number.ensures ∙ ap (λ (t : Bool). turn_number t a.digits) (eighth (columns? a.columns.now) (length a.rows.now) a.digits)))
+judged digits columns old size whole part =
+    let room : length old ≡ 8 * digits = omega arith in
+    (room, rw (eq-eqb (length columns) 128 size, eq-eqb (length old) (8 * digits) room))
 
-turned : (c : Else-number-ne0) → let a = c.args in let s = lent_system a.digits a.columns.now in rows_call s a.rows.now ≡ wrote 0 (rows_of s)
-turned c = judged c.before ∙ passed _ _ c.if-number-ne0.false
-
-pub in_rows-requires : goal.in_rows-requires
-in_rows-requires c =
-    let t = rows_turned _ _ (ap (λ (w : Wrote). w.number) (turned c.before)) in
-    (record { size = t.columns }, omega (arith, t.room, t.few.few))
+pub returns-in-Err : goal.returns-in-Err
+returns-in-Err c =
+    sym ((judged _ _ _ c.if-columns-ne128.false c.if-rows-ne0.false c.if-rows-digits.false).1
+    ∙ rw (← c.in-Err.ensures) (refused_by c.in-Err.refusal _ _ (c.from.ensures ∙ c.number.ensures)))
 
 pub returns : goal.returns
 returns c =
-    let l = c.before.before.before in
-    let t = rows_turned _ _ (ap (λ (w : Wrote). w.number) (turned l)) in
-    ap (wrote 0) (c.in_rows.ensures ∙ ap (λ (k : ℕ). rows_in k l.args.columns.now) t.room) ∙ sym (turned l)
-
-pub returns-then-number-ne0 : goal.returns-then-number-ne0
-returns-then-number-ne0 c = sym (judged c.before ∙ decided _ _ c.if-number-ne0.true)
+    let j = judged _ _ _ c.if-columns-ne128.false c.if-rows-ne0.false c.if-rows-digits.false in
+    ap (wrote 0) (c.in_rows.ensures ∙ ap (λ (k : ℕ). rows_in k c.args.columns.now) j.0) ∙ sym (j.1 ∙ passed _ _ (sym c.in_default.ensures))

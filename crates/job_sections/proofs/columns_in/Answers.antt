@@ -1,5 +1,5 @@
 -- `job_sections::columns_in` meets its contract. The invariant: the first p numbers of the columns are written.
-use Rattle.whole.proofs.Laws.{sym, ap, ◌∙◌, arith, at, element_16, copy_none, copy_one, copied}
+use Rattle.whole.proofs.Laws.{sym, ap, ◌∙◌, arith, at, element_16, copy_one, copied}
 use Rattle.digits.proofs.Laws.{columns_length, columns_at}
 use mir.Facts.{to_z-of_z}
 use Rattle.job_sections.specs.Sections.{numbers_in}
@@ -11,10 +11,7 @@ loop-p-preserved c =
     let l = c.loop-p in
     let rows = numbers_in c.args.bytes.now in
     let number = to_z-of_z (element_16 _ c.number_or_0.type_inv) ∙ c.number_or_0.ensures ∙ ap (at rows) c.row_place.ensures in
-    (search rules, copy_one l.invariant.1 (search rules) (omega (arith, columns_length rows)) (number ∙ sym (columns_at rows l.p (omega arith))))
+    copy_one l.invariant (search rules) (omega (arith, columns_length rows)) (number ∙ sym (columns_at rows l.p (omega arith)))
 
 pub returns : goal.returns
-returns c = copied c.loop-p.invariant.1 (omega arith) (columns_length (numbers_in c.args.bytes.now))
-
-pub loop-p-init : goal.loop-p-init
-loop-p-init c = (search rules, copy_none)
+returns c = copied c.loop-p.invariant (omega arith) (columns_length (numbers_in c.args.bytes.now))

@@ -1,31 +1,41 @@
 -- `job_sections::system_section` meets its contract: its presence decides, and then its numbers, as admission judges them.
-use Rattle.whole.proofs.Laws.{◌≡◌, ap, ◌∙◌, List, ℕ, ◌+◌, ◌*◌, ◌-◌, arith, take, drop, length-drop, length-take-le}
-use Rattle.digits.proofs.Laws.{columns_of}
-use Rattle.admission.proofs.Laws.{refusal_number}
-use Rattle.sections.proofs.Laws.{count_of, presence, Present, present, not_there, answered}
+use Rattle.whole.proofs.Laws.{◌≡◌, sym, ap, ◌∙◌, subst, List, ℕ, ◌+◌, ◌*◌, ◌-◌, arith, take, drop}
+use Rattle.refusals.specs.Types.{Err}
+use Rattle.refusals.specs.Numbers.{outcome_number}
+use Rattle.digits.proofs.Laws.{StoredSystem, columns_of}
+use Rattle.sections.proofs.Laws.{count_of, presence, value_of, Present, Answered, present, not_there, refused_there, answered}
 use Rattle.job_sections.specs.Sections.{numbers_in, system}
+use Rattle.std.proofs.Common.{rules}
+use Rattle.job_sections.proofs.system_section.Goals.{After-columns_in}
 use Rattle.job_sections.proofs.system_section.Goals as goal
 
-there : (b : List ℕ) {n : ℕ} → n ≡ presence system.limits b → n ≡ 0 → Present system.limits b
-there b e z = present system.limits b (omega arith) e z
+there : {b : List ℕ} → 0 ≡ presence system.limits b → Present system.limits b
+there {b} e = present system.limits b (omega arith) e
+
+-- the value that is judged
+value : (c : After-columns_in) → let v : StoredSystem = record { count = c.in_ok-count.count; columns = c.columns_in.result } in v ≡ value_of system c.args.bytes.now
+value c =
+    let n = c.in_ok-count.ensures.count in
+    let b = c.args.bytes.now in
+    let size : 2 + 16 * c.in_ok-count.count - 2 ≡ 16 * count_of b = omega (arith, n) in
+    let columns = c.columns_in.ensures ∙ ap (λ (k : ℕ). columns_of (numbers_in (take k (drop 2 b)))) size in
+    λ i. record { count = n i; columns = columns i }
+
+pub returns-in_err-count : goal.returns-in_err-count
+returns-in_err-count c =
+    let e : c.from_residual.result ≡ Err c.in_err-count.field-0.0 = search rules in
+    subst (Answered system c.args.bytes.now) (sym e) (not_there system c.in_err-count.ensures.number)
+
+pub slice_bounds-columns_in-end : goal.slice_bounds-columns_in-end
+slice_bounds-columns_in-end c = omega (arith, (there c.in_ok-count.ensures.number).fits, c.in_ok-count.ensures.count)
+
+pub returns-in_err-admission_of : goal.returns-in_err-admission_of
+returns-in_err-admission_of c =
+    let p = goal.at.returns-in_err-admission_of c in
+    let e : c.from_residual-in_err-admission_of.result ≡ Err c.in_err-admission_of.field-0.0 = search rules in
+    subst (Answered system c.args.bytes.now) (sym e) (refused_there system (there c.in_ok-count.ensures.number) (value p.After-columns_in) (ap outcome_number c.in_err-admission_of.ensures))
 
 pub returns : goal.returns
 returns c =
-    let n = c.pair_at-count.ensures.0 in
-    let b = c.args.bytes.now in
-    let size : 2 + 16 * c.pair_at-count.result - 2 ≡ 16 * count_of b = omega (arith, n) in
-    let columns = c.columns_in-columns.ensures ∙ ap (λ (k : ℕ). columns_of (numbers_in (take k (drop 2 b)))) size in
-    answered system (there c.args.bytes.now c.presence-number.ensures c.if-number-ne0.false) (ap (λ (k : ℕ). 2 + 16 * k) n) (λ i. record { count = n i; columns = columns i })
-    (c.refusal_number-number.ensures ∙ ap refusal_number c.admission_of.ensures)
-
-pub returns-then-number-ne0 : goal.returns-then-number-ne0
-returns-then-number-ne0 c = not_there system c.presence-number.ensures c.if-number-ne0.true
-
-pub pair_at-count-requires : goal.pair_at-count-requires
-pair_at-count-requires c = omega (arith, (there c.args.bytes.now c.presence-number.ensures c.if-number-ne0.false).fits)
-
-pub slice_bounds-columns_in-end : goal.slice_bounds-columns_in-end
-slice_bounds-columns_in-end c = omega (arith, (there c.args.bytes.now c.presence-number.ensures c.if-number-ne0.false).fits, c.pair_at-count.ensures)
-
-pub columns_in-columns-requires : goal.columns_in-columns-requires
-columns_in-columns-requires c = let h = there c.args.bytes.now c.presence-number.ensures c.if-number-ne0.false in let n = c.pair_at-count.ensures in let b = drop 2 c.args.bytes.now in let k = length-take-le (2 + 16 * c.pair_at-count.result - 2) b (omega (arith, h.fits, n, length-drop 2 c.args.bytes.now)) in omega (arith, k)
+    let p = goal.at.returns c in
+    answered system (there c.in_ok-count.ensures.number) (ap (λ (k : ℕ). 2 + 16 * k) c.in_ok-count.ensures.count) (value p.After-columns_in) (ap outcome_number c.in_ok-admission_of.ensures)

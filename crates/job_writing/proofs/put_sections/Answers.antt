@@ -1,6 +1,5 @@
 -- `job_writing::put_sections` meets its contract: each section is written into the rest of the buffer behind the ones before it.
 use Rattle.whole.proofs.Laws.{◌≡◌, ap, ◌∙◌, List, ◌++◌, append_assoc, ℕ, written}
-use Rattle.digits.proofs.Laws.{lent_system}
 use Rattle.job_sections.proofs.Laws.{system_bytes, matrix_bytes, word_bytes}
 use Rattle.written_sections.proofs.Laws.{filled_behind}
 use Rattle.job_writing.proofs.put_sections.Goals as goal
@@ -10,11 +9,6 @@ four_behind a b c d = append_assoc (a ++ b) c d ∙ append_assoc a b (c ++ d)
 
 pub returns : goal.returns
 returns c =
-    let w = c.before.before in
-    let m = w.before.before.before.before in
-    let o = m.before.before.before.before in
-    let i = o.before.before.before.before in
-    let all = filled_behind (filled_behind (filled_behind i.put_system-a.ensures.0 o.put_system.ensures.0) m.put_matrix.ensures.0) w.put_word.ensures.0 in
-    let a = i.args in
-    all.filled ∙ ap (λ (l : List ℕ). written l a.buffer.now) (four_behind
-    (system_bytes (lent_system a.in_count a.in_columns.now)) (system_bytes (lent_system a.out_count a.out_columns.now)) (matrix_bytes a.matrix) (word_bytes a.word.now))
+    let a = c.args in
+    let all = filled_behind (filled_behind (filled_behind c.put_system-a.ensures.0 c.put_system.ensures.0) c.put_matrix.ensures.0) c.put_word.ensures.0 in
+    all.filled ∙ ap (λ (l : List ℕ). written l a.buffer.now) (four_behind (system_bytes a.input.now) (system_bytes a.output.now) (matrix_bytes a.matrix) (word_bytes a.word.now))

@@ -1,37 +1,38 @@
 -- `job_writing::write_lent` meets its contract: what is judged decides, then the room, and then the file is written.
-use Rattle.whole.proofs.Laws.{◌≡◌, sym, ap, ◌∙◌, List, ℕ, arith, length}
-use Rattle.digits.proofs.Laws.{lent_system}
-use Rattle.job_sections.proofs.Laws.{Contents}
+use Rattle.whole.proofs.Laws.{◌≡◌, refl, sym, ap, ◌∙◌, List, ℕ, arith, length}
+use Rattle.refusals.specs.Types.{Err, Result}
+use Rattle.job_sections.proofs.Laws.{Contents, FileRefusal}
 use Rattle.job_writing.specs.Types.{Written}
-use Rattle.job_writing.specs.Writing.{contents, wrote}
+use Rattle.job_writing.specs.Writing.{contents, wrote, written_as}
 use Rattle.job_writing.proofs.WrittenFile.{refused_leaves, short_leaves, file_leaves, passed_fits}
 use Rattle.std.proofs.Common.{rules}
-use Rattle.job_writing.proofs.write_lent.Goals.{After-judge-judged}
+use Rattle.job_writing.proofs.write_lent.Goals.{Start}
 use Rattle.job_writing.proofs.write_lent.Goals as goal
 
-pub returns-in_default : goal.returns-in_default
-returns-in_default c = refused_leaves _ _ c.judge-judged.ensures c.in_default.is
-
 -- the contents
-abbrev these : (c : After-judge-judged) → Contents
-these c =
-    let a = c.args in
-    contents (lent_system a.in_count a.in_columns.now) (lent_system a.out_count a.out_columns.now) a.matrix a.word.now
+abbrev these : (c : Start) → Contents
+these c = let a = c.args in contents a.input.now a.output.now a.matrix a.word.now
+
+pub returns-in_err-size : goal.returns-in_err-size
+returns-in_err-size c =
+    let t = these (goal.at.returns-in_err-size c).Start in
+    let f = c.in_err-size.field-0.0 in
+    let e : c.from_residual.result ≡ Err f = search rules in
+    ap (λ (r : Result ℕ FileRefusal). wrote (written_as r) c.args.buffer.now) e ∙ refused_leaves t c.args.buffer.now c.in_err-size.ensures refl
 
 -- where nothing is refused
 pub returns-then-buffer-size : goal.returns-then-buffer-size
 returns-then-buffer-size c =
-    let p = goal.at.returns-then-buffer-size c in
-    short_leaves (these p.After-judge-judged) c.args.buffer.now (sym c.judge-judged.ensures ∙ c.in-Written.is) (omega (arith, c.if-buffer-size.true))
+    let t = these (goal.at.returns-then-buffer-size c).Start in
+    ap (λ (r : Result ℕ FileRefusal). wrote (written_as r) c.args.buffer.now) c.in_section.ensures ∙ short_leaves t c.args.buffer.now (sym c.in_ok-size.ensures) (omega (arith, c.if-buffer-size.true))
 
 pub put_sections-requires : goal.put_sections-requires
 put_sections-requires c =
-    let p = goal.at.put_sections-requires c in
+    let t = these (goal.at.put_sections-requires c).Start in
     let four : length c.args.matrix ≡ 4 = search rules in
-    (search rules, search rules, passed_fits (these p.After-judge-judged) c.args.buffer.now (sym c.judge-judged.ensures ∙ c.in-Written.is) four (omega (arith, c.if-buffer-size.false)))
+    passed_fits t c.args.buffer.now (sym c.in_ok-size.ensures) four (omega (arith, c.if-buffer-size.false))
 
 pub returns : goal.returns
 returns c =
-    let p = goal.at.returns c in
-    ap (λ (l : List ℕ). wrote (Written c.in-Written.size) l) c.put_sections.ensures ∙
-    file_leaves (these p.After-judge-judged) c.args.buffer.now (sym c.judge-judged.ensures ∙ c.in-Written.is) (omega (arith, c.if-buffer-size.false))
+    let t = these (goal.at.returns c).Start in
+    ap (λ (l : List ℕ). wrote (Written c.in_ok-size.size) l) c.put_sections.ensures ∙ file_leaves t c.args.buffer.now (sym c.in_ok-size.ensures) (omega (arith, c.if-buffer-size.false))

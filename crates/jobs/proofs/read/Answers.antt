@@ -1,21 +1,32 @@
--- `jobs::read` meets its contract: the number of the first section that is refused, or 2, or the job. Behind each section that passes, the rest of the file decides (`Reached`).
-use Rattle.whole.proofs.Laws.{◌≡◌, refl, sym, ap, ◌∙◌, List, inl, inr, ℕ, ◌+◌, ◌*◌, eq-zero-or-pos, arith, length, drop, length-drop, length-take-le}
+-- `jobs::read` meets its contract: the first section that is refused decides, or 2, or the job. Behind each section that passes, the rest of the file decides (`Reached`).
+use Rattle.whole.proofs.Laws.{◌≡◌, refl, sym, ap, ◌∙◌, subst, List, ℕ, ◌+◌, ◌*◌, arith, length, drop, length-drop, length-take-le}
+use Rattle.refusals.specs.Types.{Refusal, Result, Ok, Err}
+use Rattle.refusals.specs.Numbers.{number_of, outcome_number}
 use Rattle.digits.proofs.Laws.{StoredSystem}
-use Rattle.sections.proofs.Laws.{count_of, size_of, presence, Present, value_of, nothing, ◌then◌, Taken, Answered, present, not_there, answered, Reached, at_0, left, start, stops, goes, ended, followed}
+use Rattle.sections.specs.Section.{Section}
+use Rattle.sections.proofs.Laws.{Part, count_of, size_of, presence, Present, value_of, nothing, ◌then◌, Taken, Answered, present, not_there, answered, Reached, at_0, left, start, stops, goes, ended, followed}
 use Rattle.jobs.specs.Types.{Reads, Reading}
-use Rattle.job_sections.proofs.Laws.{system, matrix, word}
-use Rattle.jobs.specs.Reading.{bytes_of, reading_of, refused, Parts, job, contents_of, read_of}
+use Rattle.job_sections.proofs.Laws.{FileRefusal, system, matrix, word, in_section, passes_section, refuses_section}
+use Rattle.jobs.specs.Reading.{bytes_of, reading_of, refused, Parts, job, contents_of, read_as, read_of}
+use Rattle.std.proofs.Common.{rules, IfOk}
+use Rattle.jobs.proofs.read.Goals.{In_ok-first, In_ok-second, In_ok-third, In_ok-length}
 use Rattle.jobs.proofs.read.Goals as goal
 
 abbrev answer : Parts → Reading
 answer p = reading_of (contents_of p)
 
+-- ---- what was answered about a section
+
+module _ {A : Type 0} {s : Section A} {bytes : List ℕ} {o : Result (Part A) Refusal} (a : Answered s bytes o) (section : ℕ) {r : Result (Part A) FileRefusal} (is : r ≡ in_section o section) where
+  passed : {p : Part A} → r ≡ Ok p → Answered s bytes (Ok p)
+  passed e = subst (Answered s bytes) (passes_section section (sym is ∙ e)) a
+
+  stopped : {f : FileRefusal} → r ≡ Err f → Answered s bytes (Err f.refusal)
+  stopped e = subst (Answered s bytes) (refuses_section (sym is ∙ e)).0 a
+
 -- a word is refused by its presence alone
-word_answered : {bytes : List ℕ} {k : ℕ} → k ≡ presence word.limits bytes → Answered word bytes k (size_of word.limits bytes) (value_of word bytes)
-word_answered {bytes} {k} e = elim (eq-zero-or-pos k) [
-  | inl z ↦ answered word (present word.limits bytes (omega arith) e z) refl refl z
-  | inr n ↦ not_there word e (λ z. omega arith)
-]
+word_there : {bytes : List ℕ} → 0 ≡ presence word.limits bytes → Answered word bytes (Ok (record { size = size_of word.limits bytes; value = value_of word bytes }))
+word_there {bytes} e = answered word (present word.limits bytes (omega arith) e) refl refl refl
 
 -- and has as many bytes as its count says
 word_length : {bytes : List ℕ} → Present word.limits bytes → length (value_of word bytes) ≡ count_of bytes
@@ -23,47 +34,83 @@ word_length {bytes} p = omega (arith, length-take-le (1 * count_of bytes) (drop 
 
 -- ---- how far the file has been read
 
--- behind the first system; behind the second, and behind the matrix, by `goes` alone
-first : (file : List ℕ) {k n : ℕ} {s : StoredSystem} → Answered system file k n s → k ≡ 0 →
-    Reached (read_of file) file (system then (matrix then (word then nothing))) (λ b. answer (s, b)) refused 1 n
+-- behind the first system; behind the second; behind the matrix
+behind_first : (file : List ℕ) {p : Part StoredSystem} → Answered system file (Ok p) →
+    Reached (read_of file) file (system then (matrix then (word then nothing))) (λ b. answer (p.value, b)) refused 1 p.size
 unfolding read_of
-first file a z = goes (start job answer refused file) (at_0 file a) (omega arith) z
+behind_first file a = goes (start job answer refused file) (at_0 file a) (omega arith)
 
-pub returns-then-number-ne0 : goal.returns-then-number-ne0
+first : (c : In_ok-first) → let p = c.in_ok-first.first in
+    Reached (read_of c.args.file.now) c.args.file.now (system then (matrix then (word then nothing))) (λ b. answer (p.value, b)) refused 1 p.size
+first c = behind_first c.args.file.now (passed c.system_section.ensures 0 c.in_section.ensures c.in_ok-first.was)
+
+second : (c : In_ok-second) → let p = c.in_ok-first.first in let q = c.in_ok-second.second in
+    Reached (read_of c.args.file.now) c.args.file.now (matrix then (word then nothing)) (λ b. answer (p.value, (q.value, b))) refused 2 (p.size + q.size)
+second c =
+    let f = behind_first c.args.file.now (passed c.system_section.ensures 0 c.in_section.ensures c.in_ok-first.was) in
+    goes f (passed c.system_section-2.ensures 1 c.in_section-2.ensures c.in_ok-second.was) refl
+
+third : (c : In_ok-third) → let p = c.in_ok-first.first in let q = c.in_ok-second.second in let m = c.in_ok-third.third in
+    Reached (read_of c.args.file.now) c.args.file.now (word then nothing) (λ b. answer (p.value, (q.value, (m.value, b)))) refused 3 (p.size + q.size + m.size)
+third c =
+    let f = behind_first c.args.file.now (passed c.system_section.ensures 0 c.in_section.ensures c.in_ok-first.was) in
+    let s = goes f (passed c.system_section-2.ensures 1 c.in_section-2.ensures c.in_ok-second.was) refl in
+    goes s (passed c.matrix_section.ensures 2 c.in_section-3.ensures c.in_ok-third.was) refl
+
+-- ---- a section that is refused
+
+refuses_at : (f : FileRefusal) {r : Reading} {section : ℕ} → section ≡ f.section → refused (number_of f.refusal) section ≡ r → read_as (Err f) ≡ r
+refuses_at f e h = ap (refused (number_of f.refusal)) (sym e) ∙ h
+
+pub returns-in_err-first : goal.returns-in_err-first
 unfolding read_of
-returns-then-number-ne0 c =
+returns-in_err-first c =
     let file = c.args.file.now in
-    c.refused.ensures ∙ stops (start job answer refused file) (at_0 file c.system_section-first.ensures) c.if-number-ne0.true
+    let f = c.in_err-first.field-0.0 in
+    let e : c.from_residual.result ≡ Err f = search rules in
+    let k = refuses_section (sym c.in_section.ensures ∙ c.in_err-first.was) in
+    ap read_as e ∙ refuses_at f k.1 (stops (start job answer refused file) (at_0 file (stopped c.system_section.ensures 0 c.in_section.ensures c.in_err-first.was)))
 
-pub returns-then-number-ne0-2 : goal.returns-then-number-ne0-2
-returns-then-number-ne0-2 c =
-    let file = c.args.file.now in
-    let first = first file c.system_section-first.ensures c.if-number-ne0.false in
-    c.refused-then-number-ne0-2.ensures ∙ stops first c.system_section-second.ensures c.if-number-ne0-2.true
+pub returns-in_err-second : goal.returns-in_err-second
+returns-in_err-second c =
+    let p = goal.at.returns-in_err-second c in
+    let f = c.in_err-second.field-0.0 in
+    let e : c.from_residual-in_err-second.result ≡ Err f = search rules in
+    let k = refuses_section (sym c.in_section-2.ensures ∙ c.in_err-second.was) in
+    ap read_as e ∙ refuses_at f k.1 (stops (first p.In_ok-first) (stopped c.system_section-2.ensures 1 c.in_section-2.ensures c.in_err-second.was))
 
-pub returns-then-number-ne0-3 : goal.returns-then-number-ne0-3
-returns-then-number-ne0-3 c =
-    let file = c.args.file.now in
-    let first = first file c.system_section-first.ensures c.if-number-ne0.false in
-    let second = goes first c.system_section-second.ensures refl c.if-number-ne0-2.false in
-    c.refused-then-number-ne0-3.ensures ∙ stops second c.matrix_section-third.ensures c.if-number-ne0-3.true
+pub returns-in_err-third : goal.returns-in_err-third
+returns-in_err-third c =
+    let p = goal.at.returns-in_err-third c in
+    let f = c.in_err-third.field-0.0 in
+    let e : c.from_residual-in_err-third.result ≡ Err f = search rules in
+    let k = refuses_section (sym c.in_section-3.ensures ∙ c.in_err-third.was) in
+    ap read_as e ∙ refuses_at f k.1 (stops (second p.In_ok-second) (stopped c.matrix_section.ensures 2 c.in_section-3.ensures c.in_err-third.was))
 
-pub returns-then-number-ne0-4 : goal.returns-then-number-ne0-4
-returns-then-number-ne0-4 c =
-    let file = c.args.file.now in
-    let first = first file c.system_section-first.ensures c.if-number-ne0.false in
-    let second = goes first c.system_section-second.ensures refl c.if-number-ne0-2.false in
-    let third = goes second c.matrix_section-third.ensures refl c.if-number-ne0-3.false in
-    c.refused-then-number-ne0-4.ensures ∙ stops third (word_answered c.presence-number.ensures) c.if-number-ne0-4.true
+-- a word's presence, where it is refused and where not
+word_refused : {bytes : List ℕ} {o : Result ℕ Refusal} {r : Refusal} → outcome_number o ≡ presence word.limits bytes → o ≡ Err r → Answered word bytes (Err r)
+word_refused is e = not_there word (sym (ap outcome_number e) ∙ is)
+
+record IsThere (bytes : List ℕ) (n : ℕ) : Type 0 where
+  present : 0 ≡ presence word.limits bytes
+  count : n ≡ count_of bytes
+
+word_passed : (bytes : List ℕ) {o : Result ℕ Refusal} {n : ℕ} → outcome_number o ≡ presence word.limits bytes → IfOk o (λ k. k ≡ count_of bytes) → o ≡ Ok n → IsThere bytes n
+word_passed bytes is n e = record { present = sym (ap outcome_number e) ∙ is; count = subst (λ (o : Result ℕ Refusal). IfOk o (λ k. k ≡ count_of bytes)) e n }
+
+pub returns-in_err-length : goal.returns-in_err-length
+returns-in_err-length c =
+    let p = goal.at.returns-in_err-length c in
+    let f = c.in_err-length.field-0.0 in
+    let e : c.from_residual-in_err-length.result ≡ Err f = search rules in
+    let k = refuses_section (sym c.in_section-4.ensures ∙ c.in_err-length.was) in
+    ap read_as e ∙ refuses_at f k.1 (stops (third p.In_ok-third) (word_refused c.presence.ensures.number k.0))
 
 pub returns-then-length-rest : goal.returns-then-length-rest
 returns-then-length-rest c =
-    let file = c.args.file.now in
-    let first = first file c.system_section-first.ensures c.if-number-ne0.false in
-    let second = goes first c.system_section-second.ensures refl c.if-number-ne0-2.false in
-    let third = goes second c.matrix_section-third.ensures refl c.if-number-ne0-3.false in
-    c.refused-then-length-rest.ensures ∙
-    followed (goes third (word_answered c.presence-number.ensures) refl c.if-number-ne0-4.false) (omega (arith, left third, c.pair_at-length.ensures, c.if-length-rest.true))
+    let t = third (goal.at.returns-then-length-rest c).In_ok-third in
+    let w = word_passed _ c.presence.ensures.number c.presence.ensures.count (passes_section 3 (sym c.in_section-4.ensures ∙ c.in_ok-length.was)) in
+    ap read_as c.in_section-then-length-rest.ensures ∙ followed (goes t (word_there w.present) refl) (omega (arith, left t, w.count, c.if-length-rest.true))
 
 system_size : {bytes : List ℕ} {n : ℕ} {s : StoredSystem} → Taken system bytes n s → n ≡ bytes_of s
 system_size t = t.size ∙ ap bytes_of (sym t.value)
@@ -71,80 +118,17 @@ system_size t = t.size ∙ ap bytes_of (sym t.value)
 pub returns : goal.returns
 unfolding reading_of
 returns c =
-    let file = c.args.file.now in
-    let first = first file c.system_section-first.ensures c.if-number-ne0.false in
-    let second = goes first c.system_section-second.ensures refl c.if-number-ne0-2.false in
-    let third = goes second c.matrix_section-third.ensures refl c.if-number-ne0-3.false in
-    let w = word_answered c.presence-number.ensures in
-    let r = c.system_section-first.result in
-    let t = c.system_section-second.result in
-    let m = c.matrix_section-third.ensures.taken c.if-number-ne0-3.false in
-    let start : r.size + t.size + c.matrix_section-third.result.size + 2 ≡ bytes_of r.system + bytes_of t.system + 10 + 2 =
-    omega (arith, system_size (c.system_section-first.ensures.taken c.if-number-ne0.false), system_size (c.system_section-second.ensures.taken c.if-number-ne0-2.false), m.size, m.present.some, m.present.few) in
-    let size = c.pair_at-length.ensures.0 ∙ sym (word_length (w.taken c.if-number-ne0-4.false).present) in
+    let t = third (goal.at.returns c).In_ok-third in
+    let n = word_passed _ c.presence.ensures.number c.presence.ensures.count (passes_section 3 (sym c.in_section-4.ensures ∙ c.in_ok-length.was)) in
+    let w = word_there n.present in
+    let p = c.in_ok-first.first in
+    let q = c.in_ok-second.second in
+    let m = (passed c.matrix_section.ensures 2 c.in_section-3.ensures c.in_ok-third.was).taken in
+    let input = system_size (passed c.system_section.ensures 0 c.in_section.ensures c.in_ok-first.was).taken in
+    let output = system_size (passed c.system_section-2.ensures 1 c.in_section-2.ensures c.in_ok-second.was).taken in
+    let start : p.size + q.size + c.in_ok-third.third.size + 2 ≡ bytes_of p.value + bytes_of q.value + 10 + 2 = omega (arith, input, output, m.size, m.present.some, m.present.few) in
+    let size = n.count ∙ sym (word_length w.taken.present) in
     (λ i. record {
       verdict = Reads;
-      job = record { input = r.system; output = t.system; matrix = c.matrix_section-third.result.matrix; word = record { start = start i; length = size i } };
-    }) ∙ ended (goes third w refl c.if-number-ne0-4.false) (omega (arith, left third, c.pair_at-length.ensures, c.if-length-rest.false))
-
-pub slice_bounds-system_section-count : goal.slice_bounds-system_section-count
-slice_bounds-system_section-count c = (first c.args.file.now c.system_section-first.ensures c.if-number-ne0.false).there
-
-pub slice_bounds-system_section-start : goal.slice_bounds-system_section-start
-slice_bounds-system_section-start c = (first c.args.file.now c.system_section-first.ensures c.if-number-ne0.false).there
-
-pub overflow_add-b : goal.overflow_add-b
-overflow_add-b c =
-    let file = c.args.file.now in
-    let first = first file c.system_section-first.ensures c.if-number-ne0.false in
-    let second = goes first c.system_section-second.ensures refl c.if-number-ne0-2.false in
-    omega (arith, second.there)
-
-pub slice_bounds-matrix_section-count : goal.slice_bounds-matrix_section-count
-slice_bounds-matrix_section-count c =
-    let file = c.args.file.now in
-    let first = first file c.system_section-first.ensures c.if-number-ne0.false in
-    let second = goes first c.system_section-second.ensures refl c.if-number-ne0-2.false in
-    second.there
-
-pub slice_bounds-matrix_section-start : goal.slice_bounds-matrix_section-start
-slice_bounds-matrix_section-start c =
-    let file = c.args.file.now in
-    let first = first file c.system_section-first.ensures c.if-number-ne0.false in
-    let second = goes first c.system_section-second.ensures refl c.if-number-ne0-2.false in
-    second.there
-
-pub overflow_add-c : goal.overflow_add-c
-overflow_add-c c =
-    let file = c.args.file.now in
-    let first = first file c.system_section-first.ensures c.if-number-ne0.false in
-    let second = goes first c.system_section-second.ensures refl c.if-number-ne0-2.false in
-    let third = goes second c.matrix_section-third.ensures refl c.if-number-ne0-3.false in
-    omega (arith, third.there)
-
-pub slice_bounds-rest-count : goal.slice_bounds-rest-count
-slice_bounds-rest-count c =
-    let file = c.args.file.now in
-    let first = first file c.system_section-first.ensures c.if-number-ne0.false in
-    let second = goes first c.system_section-second.ensures refl c.if-number-ne0-2.false in
-    let third = goes second c.matrix_section-third.ensures refl c.if-number-ne0-3.false in
-    third.there
-
-pub slice_bounds-rest-start : goal.slice_bounds-rest-start
-slice_bounds-rest-start c =
-    let file = c.args.file.now in
-    let first = first file c.system_section-first.ensures c.if-number-ne0.false in
-    let second = goes first c.system_section-second.ensures refl c.if-number-ne0-2.false in
-    let third = goes second c.matrix_section-third.ensures refl c.if-number-ne0-3.false in
-    third.there
-
-pub pair_at-length-requires : goal.pair_at-length-requires
-pair_at-length-requires c = omega (arith, ((word_answered c.presence-number.ensures).taken c.if-number-ne0-4.false).present.fits)
-
-pub overflow_add-start : goal.overflow_add-start
-overflow_add-start c =
-    let file = c.args.file.now in
-    let first = first file c.system_section-first.ensures c.if-number-ne0.false in
-    let second = goes first c.system_section-second.ensures refl c.if-number-ne0-2.false in
-    let third = goes second c.matrix_section-third.ensures refl c.if-number-ne0-3.false in
-    omega (arith, third.there)
+      job = record { input = p.value; output = q.value; matrix = c.in_ok-third.third.value; word = record { start = start i; length = size i } };
+    }) ∙ ended (goes t w refl) (omega (arith, left t, n.count, c.if-length-rest.false))

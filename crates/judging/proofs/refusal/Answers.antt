@@ -1,17 +1,21 @@
 -- `judging::refusal` meets its contract: the systems, and then the state.
-use Rattle.whole.proofs.Laws.{sym, ◌∙◌}
+use Rattle.whole.proofs.Laws.{refl, sym, ap, ◌∙◌, arith}
+use Rattle.refusals.proofs.Numbers.{numbered}
+use Rattle.refusals.specs.Numbers.{outcome_number}
 use Rattle.judging.specs.Refusal.{refusal_of}
-use Rattle.judging.proofs.Judging.{system_decides, state_decides}
+use Rattle.judging.proofs.Judging.{system_decides, state_decides, passed_on}
 use Rattle.judging.proofs.refusal.Goals as goal
 
-pub returns-then-number-ne0 : goal.returns-then-number-ne0
+pub returns-in_err-systems_refusal : goal.returns-in_err-systems_refusal
 unfolding refusal_of
-returns-then-number-ne0 c = system_decides _ _ c.systems_refusal-number.ensures c.if-number-ne0.true
+returns-in_err-systems_refusal c =
+    ap outcome_number (passed_on c.from_residual.result c.from_residual.ensures.1) ∙
+    system_decides _ _ c.in_err-systems_refusal.ensures (λ z. omega (arith, numbered c.in_err-systems_refusal.field-0.0, z))
 
 pub returns-then-state_kept : goal.returns-then-state_kept
 unfolding refusal_of
-returns-then-state_kept c = let e = c.before.before in state_decides _ _ e.systems_refusal-number.ensures e.if-number-ne0.false (sym c.state_kept.ensures ∙ c.if-state_kept.true)
+returns-then-state_kept c = state_decides _ _ c.in_ok-systems_refusal.ensures refl (sym c.state_kept.ensures ∙ c.if-state_kept.true)
 
 pub returns-else-state_kept : goal.returns-else-state_kept
 unfolding refusal_of
-returns-else-state_kept c = let e = c.before.before in state_decides _ _ e.systems_refusal-number.ensures e.if-number-ne0.false (sym c.state_kept.ensures ∙ c.if-state_kept.false)
+returns-else-state_kept c = state_decides _ _ c.in_ok-systems_refusal.ensures refl (sym c.state_kept.ensures ∙ c.if-state_kept.false)

@@ -1,30 +1,29 @@
--- `numbers::held_from` meets its contract, by the sign of the number and its size.
-use Rattle.whole.proofs.Laws.{◌≡◌, sym, ap, ◌∙◌, cond, arith, ltb, nat_abs, lt-ltb, le-ltb}
-use Rattle.states.proofs.Laws.{Digit}
+-- `numbers::held_from` meets its contract: −1, and then whether a byte holds the number.
+use Rattle.whole.proofs.Laws.{◌≡◌, refl, sym, ap, ◌∙◌, ℕ, zero, suc, ℤ, pos, negsuc, arith, lt-ltb, le-ltb}
+use Rattle.std.specs.Result.{OkIff, result_unwrap_or}
+use Rattle.std.specs.Int.{FitsUnsignedBits}
+use Rattle.std.specs.Prelude.{Result, Ok, Err, nat_abs}
+use Rattle.states.proofs.Laws.{Some}
 use mir.Facts.{to_z-of_z}
+use mir.Syntax.{w64}
+use mir.Val.{to_z, of_z}
 use Rattle.numbers.specs.Numbers.{held_from}
-use Rattle.numbers.proofs.held_from.Goals.{After-magnitude-d}
 use Rattle.numbers.proofs.held_from.Goals as goal
 
-pub returns-then-z-ltminus1 : goal.returns-then-z-ltminus1
+pub returns-then-z-eqminus1 : goal.returns-then-z-eqminus1
 unfolding held_from
-returns-then-z-ltminus1 c = rw (rw (to_z-of_z c.ranges.z) at c.if-z-ltminus1.true)
+returns-then-z-eqminus1 c = let minus_one : c.args.z ≡ negsuc 0 = sym (to_z-of_z c.ranges.z) ∙ ap (to_z w64) c.if-z-eqminus1.true in rw minus_one
 
-pub returns-then-z-lt0 : goal.returns-then-z-lt0
+-- a byte holds it or not
+byte : {E : Type 0} (z : ℤ) (r : Result ℕ E) → (z ≡ negsuc 0 → ⊥) → OkIff r (FitsUnsignedBits 8 z) (nat_abs z) → Some (result_unwrap_or r 255) ≡ held_from z
 unfolding held_from
-returns-then-z-lt0 c = let same = to_z-of_z c.ranges.z in rw (rw same at c.if-z-ltminus1.false, rw same at c.if-z-lt0.true)
-
--- neither below −1 nor below 0: the size decides
-size : (m : After-magnitude-d) → let z = m.args.z in
-    held_from z ≡ cond (ltb 255 m.magnitude-d.result) (Digit 255) (Digit m.magnitude-d.result)
-unfolding held_from
-size m =
-    let same = to_z-of_z m.ranges.z in
-    let e = m.magnitude-d.ensures ∙ ap nat_abs same in
-    rw (rw same at m.if-z-ltminus1.false, rw same at m.if-z-lt0.false, e)
-
-pub returns-then-d-gt255 : goal.returns-then-d-gt255
-returns-then-d-gt255 c = sym (size c.before ∙ rw (lt-ltb 255 c.magnitude-d.result (omega arith)))
+byte (pos n) (Ok x) not_minus_one h = rw (h.1, le-ltb n 0 (omega arith), le-ltb 255 n (omega (arith, h.0)))
+byte (pos n) (Err e) not_minus_one h = rw (le-ltb n 0 (omega arith), lt-ltb 255 n (omega arith))
+byte (negsuc n) (Ok x) not_minus_one h = absurd h.0
+byte (negsuc zero) (Err e) not_minus_one h = absurd (not_minus_one refl)
+byte (negsuc (suc n)) (Err e) not_minus_one h = rw (lt-ltb 0 (suc n) (omega arith))
 
 pub returns : goal.returns
-returns c = sym (size c.before ∙ rw (le-ltb 255 c.magnitude-d.result (omega arith)))
+returns c =
+    let same = to_z-of_z c.ranges.z in
+    ap (λ (d : ℕ). Some d) c.unwrap_or.ensures ∙ byte c.args.z c.try_from.result (λ e. c.if-z-eqminus1.false (ap (of_z w64) e)) (rw same at c.try_from.ensures)

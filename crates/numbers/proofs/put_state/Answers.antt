@@ -7,6 +7,5 @@ use Rattle.numbers.proofs.put_state.Goals as goal
 pub returns : goal.returns
 unfolding state_numbers
 returns c =
-    let s = c.before.before.before.before.before in
     ap₂ (λ l z. set l 4 z) c.put_matrix.ensures (ok_back c.held_number.type_inv ∙ c.held_number.ensures)
-    ∙ rw (known (pos 0) 5 s.args.five.now s.requires)
+    ∙ rw (known (pos 0) 5 c.args.five.now c.requires)

@@ -1,11 +1,14 @@
 -- `one_step::fitting_of` meets its contract: the image is formed once, and searched for among the digits of the output system, by constants where that is B.
 use Rattle.whole.proofs.Laws.{◌≡◌, sym, ap, subst, ◌∙◌, Within, within_le}
 use Rattle.plane.proofs.Laws.{Interval, image_of, image_within, interval_moves}
-use Rattle.digits.proofs.Laws.{lent}
+use Rattle.digits.proofs.Laws.{system_of}
 use Rattle.fitting.proofs.Laws.{fitting, fitting_of, same_fitting}
 use Rattle.steps.proofs.Laws.{Setting, setting, chosen}
 use Rattle.one_step.proofs.fitting_of.Goals.{After-image-image, Start}
 use Rattle.one_step.proofs.fitting_of.Goals as goal
+
+pub interval-w-requires : goal.interval-w-requires
+interval-w-requires c = c.requires.0.there
 
 pub image-image-requires : goal.image-image-requires
 image-image-requires c =
@@ -17,7 +20,7 @@ abbrev start : After-image-image → Start
 start c = c.before.before.before
 
 abbrev pair : After-image-image → Setting
-pair c = let a = (start c).args in setting (lent 0 a.input_columns.now) (lent a.output_count a.output_columns.now)
+pair c = let a = (start c).args in setting (system_of a.inputs.now) (system_of a.outputs.now)
 
 image-is : (c : After-image-image) → let a = (start c).args in c.image-image.result ≡ image_of a.s.matrix ((pair c).input.interval a.h)
 image-is c = c.image-image.ensures ∙ ap (image_of (start c).args.s.matrix) c.interval-w.ensures
@@ -35,14 +38,14 @@ pub returns-then-b : goal.returns-then-b
 returns-then-b c =
     let i = c.before.before in
     let p = (start i).requires in
-    c.fitting_b.ensures ∙ ap fitting (sym (same_fitting (p.3 c.if-b.true) p.2.few i.image-image.result) ∙ is i)
+    c.fitting_b.ensures ∙ ap fitting (sym (same_fitting (p.2 c.if-b.true) p.1.few i.image-image.result) ∙ is i)
 
 pub fitting_digit-requires : goal.fitting_digit-requires
 fitting_digit-requires c =
     let i = c.before in
     let p = (start i).requires in
-    let digits = p.2.digits in
-    (p.1, p.2.few, record { small = λ a h. (digits a h).in_range.numbers_w; intervals = λ a h. (digits a h).interval }, (image-asked i).0, (image-asked i).1)
+    let digits = p.1.digits in
+    (p.1.few, record { small = λ a h. (digits a h).in_range.numbers_w; intervals = λ a h. (digits a h).interval }, (image-asked i).0, (image-asked i).1)
 
 pub returns : goal.returns
 returns c = c.fitting_digit.ensures ∙ ap fitting (is c.before.before)

@@ -1,31 +1,30 @@
 -- `open_call::open` meets its contract: slices of the wrong length, the two refusals, and the opened state, written as five numbers.
-use Rattle.whole.proofs.Laws.{◌≡◌, sym, ap, ◌∙◌, eq-eqb, ne_eqb, unless_refused, passed, decided}
-use Rattle.opening.proofs.Laws.{open_of}
-use Rattle.numbers.proofs.Laws.{state_numbers, wrote}
-use Rattle.open_call.specs.OpenCall.{open_call_of}
-use Rattle.open_call.proofs.open.Goals.{After-opening_number-number}
+use Rattle.whole.proofs.Laws.{◌≡◌, sym, ap, ◌∙◌, List, ℤ, length, eq-eqb, ne_eqb, unless_refused}
+use Rattle.plane.proofs.Laws.{entries}
+use Rattle.opening.proofs.Laws.{Start, open_of}
+use Rattle.numbers.proofs.Laws.{wrote, refused_by}
+use Rattle.open_call.specs.OpenCall.{opened, open_call_of}
+use Rattle.open_call.proofs.open.Goals.{then-matrix-ne4-via-then-matrix-ne4, then-matrix-ne4-via-else-matrix-ne4+then-state-ne5}
 use Rattle.open_call.proofs.open.Goals as goal
 
 pub returns-then-matrix-ne4 : goal.returns-then-matrix-ne4
 unfolding open_call_of
-returns-then-matrix-ne4 c = rw (ne_eqb _ _ c.if-matrix-ne4.true)
+returns-then-matrix-ne4 c = elim c.then-matrix-ne4.branch [
+  | then-matrix-ne4-via-then-matrix-ne4 w ↦ rw (ne_eqb _ _ w.if-matrix-ne4.true)
+  | then-matrix-ne4-via-else-matrix-ne4+then-state-ne5 w ↦ rw (eq-eqb _ _ w.if-matrix-ne4.false, ne_eqb _ _ w.if-state-ne5.true)
+]
 
-pub returns-then-state-ne5 : goal.returns-then-state-ne5
+-- where the lengths are right, the opening decides
+judged : (m old : List ℤ) {r : Start} {n : List ℤ} → length m ≡ 4 → length old ≡ 5 → n ≡ entries m → r ≡ open_of n → open_call_of m old ≡ opened r old
 unfolding open_call_of
-returns-then-state-ne5 c = rw (eq-eqb _ _ c.if-matrix-ne4.false, ne_eqb _ _ c.if-state-ne5.true)
+judged m old four five e p = rw (eq-eqb (length m) 4 four, eq-eqb (length old) 5 five) (sym (ap (λ (r : Start). opened r old) (p ∙ ap open_of e)))
 
--- where the lengths are right, the number of the opening decides
-judged : (n : After-opening_number-number) → let o = n.before.before in let a = o.args in
-    open_call_of a.matrix.now a.state.now
-    ≡ unless_refused n.opening_number-number.result (λ k. wrote k a.state.now) (wrote 0 (state_numbers o.open-start.result.state))
-unfolding open_call_of
-judged n =
-    let o = n.before.before in
-    let l = o.before.before in
-    rw (eq-eqb _ _ l.if-matrix-ne4.false, eq-eqb _ _ l.if-state-ne5.false, ← (o.open-start.ensures ∙ ap open_of o.matrix_from.ensures), ← n.opening_number-number.ensures)
+pub returns-in-Err : goal.returns-in-Err
+returns-in-Err c =
+    sym (judged c.args.matrix.now c.args.state.now c.if-matrix-ne4.false c.if-state-ne5.false c.matrix_from.ensures c.in-Err.ensures
+    ∙ refused_by c.in-Err.refusal _ _ (c.from.ensures ∙ c.number.ensures))
 
-pub returns : goal.returns
-returns c = let l = c.before.before.before in ap (wrote 0) c.put_state.ensures ∙ sym (judged l.before ∙ passed _ _ l.if-number-ne0.false)
-
-pub returns-then-number-ne0 : goal.returns-then-number-ne0
-returns-then-number-ne0 c = sym (judged c.before ∙ decided _ _ c.if-number-ne0.true)
+pub returns-in-Ok : goal.returns-in-Ok
+unfolding unless_refused
+returns-in-Ok c =
+    ap (wrote 0) c.put_state.ensures ∙ sym (judged c.args.matrix.now c.args.state.now c.if-matrix-ne4.false c.if-state-ne5.false c.matrix_from.ensures c.in-Ok.ensures)

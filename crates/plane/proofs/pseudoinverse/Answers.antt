@@ -1,5 +1,5 @@
 -- `plane::pseudoinverse` meets its contract: a negation is worked out as 0 less the number, and fits.
-use Rattle.whole.proofs.Laws.{◌≡◌, ◌∙◌, ℤ, pos, neg_ℤ, ◌-ℤ◌, +ℤ_idl, Near, literal, stored, back, sub_ok, sub_stands, held}
+use Rattle.whole.proofs.Laws.{◌≡◌, ◌∙◌, ℤ, pos, neg_ℤ, ◌-ℤ◌, +ℤ_idl, Near, literal, stored, back, sub_stands, held}
 use Rattle.plane.specs.Plane.{pseudoinverse_of}
 use Rattle.plane.proofs.Identities.{four_equal}
 use Rattle.plane.proofs.pseudoinverse.Goals as goal
@@ -10,9 +10,3 @@ negated {z} h = (sub_stands (literal (pos 0)) (stored h tt) tt).is ∙ +ℤ_idl 
 pub returns : goal.returns
 unfolding pseudoinverse_of
 returns c = let p = c.requires in four_equal (back p.n3 tt) (negated p.n1) (negated p.n2) (back p.n0 tt)
-
-pub overflow_sub-result : goal.overflow_sub-result
-overflow_sub-result c = sub_ok (literal (pos 0)) (stored c.requires.n1 tt) tt
-
-pub overflow_sub-result-2 : goal.overflow_sub-result-2
-overflow_sub-result-2 c = sub_ok (literal (pos 0)) (stored c.requires.n2 tt) tt

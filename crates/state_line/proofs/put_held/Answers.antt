@@ -5,14 +5,14 @@ use Rattle.text.proofs.Laws.{wrote_as, at_most}
 use Rattle.state_line.specs.StateLine.{held_text}
 use Rattle.state_line.proofs.put_held.Goals as goal
 
-pub returns-in-Nothing : goal.returns-in-Nothing
+pub returns-in-None : goal.returns-in-None
 unfolding held_text
-returns-in-Nothing c =
+returns-in-None c =
     let p = c.before.before in
-    wrote_as (sym (ap (λ (h : Held). held_text h ++ (10 ∷ [])) p.in-Nothing.is)) (at_most (omega arith) p.put_text.ensures)
+    wrote_as (sym (ap (λ (h : Held). held_text h ++ (10 ∷ [])) p.in-None.is)) (at_most (omega arith) p.put_text.ensures)
 
-pub returns-in-Digit : goal.returns-in-Digit
+pub returns-in-Some : goal.returns-in-Some
 unfolding held_text
-returns-in-Digit c =
+returns-in-Some c =
     let p = c.before.before in
-    wrote_as (sym (ap (λ (h : Held). held_text h ++ (10 ∷ [])) p.in-Digit.is)) p.put_field.ensures
+    wrote_as (sym (ap (λ (h : Held). held_text h ++ (10 ∷ [])) p.in-Some.is)) p.put_field.ensures

@@ -10,8 +10,7 @@ returns-then-list-p c = λ bytes room. absorb_unlisted c.args.s _ _ bytes room _
 
 pub returns : goal.returns
 returns c =
-    let q = c.before.before.before in
-    let a = q.args in
-    let is = q.absorbed_product-new.ensures in
-    λ bytes room. rw (c.in_range.ensures ∙ ap₂ (λ (n : ℕ). ranged_move a.s (Absorb n)) is.0 (c.absorbed-t.ensures ∙ ap (absorbed a.s) is.1))
+    let a = c.args in
+    let is = c.absorbed_product-new.ensures in
+    λ bytes room. rw (c.in_range.ensures ∙ ap₂ (λ (n : ℕ). ranged_move a.s (Absorb n)) is.0 (c.opened.ensures ∙ ap (absorbed a.s) is.1))
     (absorbs a.s _ _ bytes room (a.list - a.p) (λ e. omega arith))

@@ -13,8 +13,7 @@ returns-then-list-p c = λ bytes. give_unlisted c.args.s _ _ bytes _ _ _ (λ e. 
 
 pub returns : goal.returns
 returns c =
-    let q = c.before.before.before in
-    let a = q.args in
-    let is = q.given_product-new.ensures in
-    λ bytes. rw (c.in_range.ensures ∙ ap₂ (λ (n : ℕ). ranged_move a.s (Give a.b n)) is.0 (c.given-t.ensures ∙ ap (given a.s) is.1))
+    let a = c.args in
+    let is = c.given_product-new.ensures in
+    λ bytes. rw (c.in_range.ensures ∙ ap₂ (λ (n : ℕ). ranged_move a.s (Give a.b n)) is.0 (c.given.ensures ∙ ap (given a.s) is.1))
     (gives a.s _ _ bytes a.b (a.room - a.o) (a.list - a.p) (λ e. omega arith) (λ e. omega arith))

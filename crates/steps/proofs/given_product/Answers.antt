@@ -1,12 +1,11 @@
 -- `steps::given_product` meets its contract: by the constants of R, where nothing is cancelled, or from the digit's transformation, cancelled by its determinant.
-use Rattle.whole.proofs.Laws.{◌≡◌, refl, sym, ap, subst, subst₂, ◌∙◌, List, ℕ, nat_abs, ℤ, gcd4, Within, within_le}
+use Rattle.whole.proofs.Laws.{refl, sym, ap, subst, subst₂, ◌∙◌, List, ℕ, nat_abs, ℤ, gcd4, Within, within_le}
 use Rattle.plane.proofs.Laws.{cancel_of, determinant_of, multiply_of, pseudoinverse_of, within_products}
-use Rattle.digits.proofs.Laws.{transformation_at}
+use Rattle.digits.proofs.Laws.{system_of, transformation}
 use Rattle.built_in_digits.proofs.Laws.{r_determinant}
 use Rattle.steps.specs.Made.{Factors}
 use Rattle.steps.proofs.Factors.{give_factors}
 use Rattle.steps.proofs.ByDeterminant.{cast_ok, size_held, nothing_cancelled}
-use Rattle.steps.proofs.given_product.Goals.{After-determinant-d, After-pseudoinverse}
 use Rattle.steps.proofs.given_product.Goals as goal
 
 -- the product, by the digit's transformation
@@ -16,46 +15,36 @@ by x f = multiply_of (pseudoinverse_of f) x
 -- ---- where r is true
 
 pub given_r-requires : goal.given_r-requires
-given_r-requires c = let s = c.before.before in (s.requires.0.in_range, s.requires.1.below c.if-r.true)
+given_r-requires c = (c.requires.0.in_range, c.requires.1.below c.if-r.true)
 
 pub returns-then-r : goal.returns-then-r
 unfolding multiply_of
 returns-then-r c =
-    let s = c.before.before.before in
-    let x = s.args.s.matrix in
-    let same = s.requires.1.same c.if-r.true in
-    let one = ap (λ (f : List ℤ). nat_abs (determinant_of f)) same ∙ r_determinant _ (s.requires.1.below c.if-r.true) in
-    let kept = nothing_cancelled (by x (transformation_at s.args.columns.now s.args.b)) refl (give_factors s.requires.0).divides one in
+    let x = c.args.s.matrix in
+    let same = c.requires.1.same c.if-r.true in
+    let one = ap (λ (f : List ℤ). nat_abs (determinant_of f)) same ∙ r_determinant _ (c.requires.1.below c.if-r.true) in
+    let kept = nothing_cancelled (by x (transformation (system_of c.args.outputs.now) c.args.b)) refl (give_factors c.requires.0).divides one in
     (kept.0, c.given_r.ensures ∙ ap (by x) (sym same) ∙ kept.1)
 
 -- ---- where it is not: by the transformation that was read
+
+pub transformation-g-requires : goal.transformation-g-requires
+transformation-g-requires c = c.requires.0.there
 
 pub determinant-d-requires : goal.determinant-d-requires
 determinant-d-requires c = within_products (subst (Within 100) (sym c.transformation-g.ensures) c.requires.0.digit.in_range.numbers_f) tt
 
 pub pseudoinverse-requires : goal.pseudoinverse-requires
-pseudoinverse-requires c = let s = c.before.before.before.before in
-    subst (Within 1000000000) (sym c.transformation-g.ensures) (within_le s.requires.0.digit.in_range.numbers_f tt)
-
--- the determinant, as a word
-told : (c : After-determinant-d) → let a = c.args in c.determinant-d.result ≡ determinant_of (transformation_at a.columns.now a.b)
-told c = c.determinant-d.ensures ∙ ap determinant_of c.transformation-g.ensures
+pseudoinverse-requires c = subst (Within 1000000000) (sym c.transformation-g.ensures) (within_le c.requires.0.digit.in_range.numbers_f tt)
 
 pub overflow_cast-d : goal.overflow_cast-d
-overflow_cast-d c = let d = c.before in cast_ok d.requires.0.digit.above d.determinant-d.type_inv (told d)
-
--- the first factor
-turned : (c : After-pseudoinverse) → let a = c.args in c.pseudoinverse.result ≡ pseudoinverse_of (transformation_at a.columns.now a.b)
-turned c = c.pseudoinverse.ensures ∙ ap pseudoinverse_of c.transformation-g.ensures
+overflow_cast-d c = cast_ok c.requires.0.digit.above c.determinant-d.type_inv (c.determinant-d.ensures ∙ ap determinant_of c.transformation-g.ensures)
 
 pub product-requires : goal.product-requires
 product-requires c =
-    let d = c.before in
-    let s = d.before.before.before.before in
-    subst₂ (λ (m : List ℤ) (n : ℕ). Factors m s.args.s.matrix n) (sym (turned c)) (size_held s.requires.0.digit.above d.determinant-d.type_inv (told d)) (give_factors s.requires.0)
+    subst₂ (λ (m : List ℤ) (n : ℕ). Factors m c.args.s.matrix n) (sym (c.pseudoinverse.ensures ∙ ap pseudoinverse_of c.transformation-g.ensures)) (size_held c.requires.0.digit.above c.determinant-d.type_inv (c.determinant-d.ensures ∙ ap determinant_of c.transformation-g.ensures)) (give_factors c.requires.0)
 
 pub returns : goal.returns
 returns c =
-    let x = c.args.s.matrix in
-    let same = ap (λ (m : List ℤ). multiply_of m x) (turned c.before) in
+    let same = ap (λ (m : List ℤ). multiply_of m c.args.s.matrix) (c.pseudoinverse.ensures ∙ ap pseudoinverse_of c.transformation-g.ensures) in
     (c.product.ensures.0 ∙ ap gcd4 same, c.product.ensures.1 ∙ ap cancel_of same)

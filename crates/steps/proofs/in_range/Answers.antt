@@ -2,8 +2,8 @@
 use Rattle.whole.proofs.Laws.{sym, ◌∙◌}
 use Rattle.steps.proofs.in_range.Goals as goal
 
-pub returns-then-within_state : goal.returns-then-within_state
-returns-then-within_state c = rw (sym c.within_state.ensures ∙ c.if-within_state.true)
+pub returns-then-within : goal.returns-then-within
+returns-then-within c = rw (sym c.within.ensures ∙ c.if-within.true)
 
 pub returns : goal.returns
-returns c = rw (sym c.within_state.ensures ∙ c.if-within_state.false)
+returns c = rw (sym c.within.ensures ∙ c.if-within.false)

@@ -8,9 +8,3 @@ pub multiply-requires-2 : goal.multiply-requires-2
 multiply-requires-2 c =
     let p = c.requires in
     factors_fit (subst (Within 1000000000) (sym c.multiply.ensures) (within_le (multiply_within p.0 p.1) tt)) p.2 tt
-
-pub returns : goal.returns
-returns c = c.multiply-2.ensures ∙ ap (λ (m : List ℤ). multiply_of m c.args.n) c.multiply.ensures
-
-pub multiply-requires : goal.multiply-requires
-multiply-requires c = factors_fit c.requires.0 c.requires.1 tt

@@ -1,62 +1,59 @@
 -- `symmetry::turn` meets its contract: what the products ensure of F and of W's ends, and what cancelling makes of them.
 use Rattle.whole.proofs.Laws.{◌≡◌, refl, sym, ◌∙◌, ap, ap₂, subst, List, ℤ, ◌<◌, Within, within?, within_says, gcd4, within_le}
 use Rattle.plane.proofs.Laws.{image_of, pseudoinverse_of, cancel_of, image_within, interval_moves, cancel_within, divisor_above}
-use Rattle.symmetry.specs.Row.{transformation_in, interval_in, joined_row}
+use Rattle.symmetry.specs.Row.{Turnable, transformation_in, interval_in, joined_row}
 use Rattle.symmetry.specs.Symmetry.{lowest_ends, rotation, conjugated, turned}
 use Rattle.symmetry.proofs.Sizes.{conjugated_above, rotation_within, back_within, rotation_above, three_within, lowest_within}
-use Rattle.symmetry.proofs.turn.Goals.{After-image-w, After-lowest_ends, Start}
+use Rattle.symmetry.proofs.turn.Goals.{After-lowest_ends-ends}
 use Rattle.symmetry.proofs.turn.Goals as goal
 
-pub product_of_three-f-requires : goal.product_of_three-f-requires
+pub product_of_three-requires : goal.product_of_three-requires
 unfolding within?
-product_of_three-f-requires c = (within_says 1 _ refl, subst (Within 100) (sym c.four.ensures) c.requires.small.numbers_f, within_says 1 _ refl)
+product_of_three-requires c = (within_says 1 _ refl, subst (Within 100) (sym c.parts.ensures.0) c.requires.small.numbers_f, within_says 1 _ refl)
 
-pub image-w-requires : goal.image-w-requires
+pub image-requires : goal.image-requires
 unfolding within?
-image-w-requires c = (within_says 1000000000 _ refl, subst (Within 100) (sym c.four-2.ensures) c.requires.small.numbers_w)
+image-requires c = (within_says 1000000000 _ refl, subst (Within 100) (sym c.parts.ensures.1) c.requires.small.numbers_w)
 
 -- what is worked out of F, and of W
-module _ (c : After-image-w) where
-  abbrev start : Start
-  start = c.before.before.before.before
+abbrev turned-f : List ℤ → List ℤ
+turned-f row = conjugated (transformation_in row)
 
-  abbrev f : List ℤ
-  f = conjugated (transformation_in start.args.row)
+abbrev turned-w : List ℤ → List ℤ
+turned-w row = image_of rotation (interval_in row)
 
-  abbrev w : List ℤ
-  w = image_of rotation (interval_in start.args.row)
+module _ {row : List ℤ} (r : Turnable row) where
+  small-f : Within 400 (turned-f row)
+  small-f = three_within rotation_within r.small.numbers_f back_within
 
-  is_f : c.product_of_three-f.result ≡ f
+  small-w : Within 200 (turned-w row)
+  small-w = image_within rotation_within r.small.numbers_w
+
+  above : 0 < gcd4 (turned-f row)
+  above = divisor_above (conjugated_above r.above)
+
+pub cancel-turned-requires : goal.cancel-turned-requires
+unfolding pseudoinverse_of
+cancel-turned-requires c =
+    let e : c.product_of_three.result ≡ turned-f c.args.row = c.product_of_three.ensures ∙ ap conjugated c.parts.ensures.0 in
+    rw e (within_le (small-f c.requires) tt, above c.requires)
+
+pub lowest_ends-ends-requires : goal.lowest_ends-ends-requires
+lowest_ends-ends-requires c =
+    let e : c.image.result ≡ turned-w c.args.row = c.image.ensures ∙ ap (image_of rotation) c.parts.ensures.1 in
+    rw e (small-w c.requires, interval_moves rotation_above c.requires.interval)
+
+module _ (c : After-lowest_ends-ends) where
+  is-cancelled : c.cancel-turned.result.matrix ≡ cancel_of (turned-f c.args.row)
   unfolding pseudoinverse_of
-  is_f = c.product_of_three-f.ensures ∙ ap conjugated c.four.ensures
+  is-cancelled = c.cancel-turned.ensures.1 ∙ ap cancel_of (c.product_of_three.ensures ∙ ap conjugated c.parts.ensures.0)
 
-  is-w : c.image-w.result ≡ w
-  is-w = c.image-w.ensures ∙ ap (image_of rotation) c.four-2.ensures
-
-  small-f : Within 400 f
-  small-f = three_within rotation_within start.requires.small.numbers_f back_within
-
-  small-w : Within 200 w
-  small-w = image_within rotation_within start.requires.small.numbers_w
-
-  above : 0 < gcd4 f
-  above = divisor_above (conjugated_above start.requires.above)
-
-pub cancel-cancelled-requires : goal.cancel-cancelled-requires
-cancel-cancelled-requires c = rw (is_f c) (within_le (small-f c) tt, above c)
-
-pub lowest_ends-requires : goal.lowest_ends-requires
-lowest_ends-requires c = let i = c.before.before in rw (is-w i) (small-w i, interval_moves rotation_above (start i).requires.interval)
-
-is-cancelled : (c : After-lowest_ends) → c.cancel-cancelled.result.matrix ≡ cancel_of (f c.before.before.before)
-is-cancelled c = c.cancel-cancelled.ensures.1 ∙ ap cancel_of (is_f c.before.before.before)
-
-is-lowest : (c : After-lowest_ends) → c.lowest_ends.result ≡ lowest_ends (w c.before.before.before)
-is-lowest c = c.lowest_ends.ensures ∙ ap lowest_ends (is-w c.before.before.before)
+  is-lowest : c.lowest_ends-ends.result ≡ lowest_ends (turned-w c.args.row)
+  is-lowest = c.lowest_ends-ends.ensures ∙ ap lowest_ends (c.image.ensures ∙ ap (image_of rotation) c.parts.ensures.1)
 
 pub joined-requires : goal.joined-requires
-joined-requires c = rw (is-cancelled c, is-lowest c) (cancel_within (small-f c.before.before.before), within_le (lowest_within (small-w c.before.before.before)) tt)
+joined-requires c = rw (is-cancelled c.before, is-lowest c.before) (cancel_within (small-f c.requires), within_le (lowest_within (small-w c.requires)) tt)
 
 pub returns : goal.returns
 unfolding turned
-returns c = c.joined.ensures ∙ ap₂ joined_row (is-cancelled c.before) (is-lowest c.before)
+returns c = c.joined.ensures ∙ ap₂ joined_row (is-cancelled c.before.before) (is-lowest c.before.before)

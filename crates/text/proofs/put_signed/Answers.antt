@@ -18,7 +18,7 @@ returns-then-z-lt0 c =
     let m = p.before.before.before in
     let s = m.before.before in
     let z = to_z-of_z s.ranges.z in
-    wrote_as (written s.args.z true _ _ (simp z at p.if-z-lt0.true) (m.magnitude-n.ensures ∙ ap nat_abs z)) (and_then_lem p.put-p.ensures f.put_field.ensures)
+    wrote_as (written s.args.z true _ _ (simp z at p.if-z-lt0.true) (m.unsigned_abs-n.ensures.value ∙ ap nat_abs z)) (and_then_lem p.put-p.ensures f.put_field.ensures)
 
 pub returns : goal.returns
 returns c =
@@ -26,4 +26,4 @@ returns c =
     let m = f.before.before.before in
     let s = m.before.before in
     let z = to_z-of_z s.ranges.z in
-    wrote_as (written s.args.z false _ _ (simp z at f.if-z-lt0.false) (m.magnitude-n.ensures ∙ ap nat_abs z)) (at_most (omega arith) f.put_field-2.ensures)
+    wrote_as (written s.args.z false _ _ (simp z at f.if-z-lt0.false) (m.unsigned_abs-n.ensures.value ∙ ap nat_abs z)) (at_most (omega arith) f.put_field-2.ensures)

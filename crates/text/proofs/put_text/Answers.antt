@@ -1,20 +1,20 @@
--- `text::put_text` meets its contract. The invariant: the first i bytes are written.
-use Rattle.whole.proofs.Laws.{sym, ap, ◌∙◌, ℕ, ◌+◌, arith, List, get_or, set, length-set, sets, take_all}
-use Rattle.text.proofs.Written.{byte_more}
-use Rattle.std.proofs.Common.{rules}
+-- `text::put_text` meets its contract: the text stands in the place of as many bytes.
+use Rattle.whole.proofs.Laws.{◌≡◌, sym, ap, ap₂, ◌∙◌, List, ◌++◌, ℕ, ◌+◌, ◌-◌, arith, length, take, drop, drop-drop, append_assoc}
+use Rattle.std.proofs.lemmas.List.Edits.{sets-eq}
 use Rattle.text.proofs.put_text.Goals as goal
-
-pub loop-i-preserved : goal.loop-i-preserved
-loop-i-preserved c =
-    let l = c.before.before in
-    let a = l.args in (
-      search rules,
-      simp length-set l.loop-i.invariant.1,
-      ap (λ (x : List ℕ). set x (a.at + l.loop-i.i) (get_or a.text.now l.loop-i.i 0)) l.loop-i.invariant.2 ∙ sym (byte_more a.out.now a.text.now a.at l.loop-i.i (omega arith)),
-    )
 
 pub returns : goal.returns
 returns c =
-    let a = c.args in
-    let e = take_all c.loop-i.i a.text.now (omega arith) in
-    record { place = omega arith; few = omega arith; bytes = c.loop-i.invariant.2 ∙ ap (sets a.out.now a.at) e }
+    let at = c.args.at in
+    let old = c.args.out.now in
+    let text = c.args.text.now in
+    let n : at + length text - at ≡ length text = omega arith in
+    record {
+      place = omega arith;
+      few = omega arith;
+      bytes =
+          ap₂ (λ (x : List ℕ) (k : ℕ). take at old ++ (x ++ drop k (drop at old))) c.copy_from_slice.ensures.after n ∙
+          ap (λ (l : List ℕ). take at old ++ (text ++ l)) (drop-drop (length text) at old) ∙
+          sym (append_assoc (take at old) text (drop (at + length text) old)) ∙
+          sym (sets-eq text old at (omega (arith, c.requires)));
+    }

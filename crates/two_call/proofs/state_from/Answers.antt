@@ -1,47 +1,23 @@
--- `two_call::state_from` meets its contract: an i64 holds each of the last three numbers, and where the last is no turn, a digit is held that no system has.
-use Rattle.whole.proofs.Laws.{◌≡◌, sym, ap, ◌∙◌, List, ℤ, pos, at, drop, ok_back, not-true, not-false}
-use Rattle.states.proofs.Laws.{Digit}
-use Rattle.numbers.proofs.Laws.{known}
-use Rattle.numbers.specs.Numbers.{held_from}
-use Rattle.bilinear.proofs.Laws.{form}
+-- `two_call::state_from` meets its contract, part by part: where the last number is no turn, a digit is held, of x, that no system has.
+use Rattle.whole.proofs.Laws.{◌≡◌, sym, ◌∙◌, at, drop}
 use Rattle.plane.proofs.Laws.{entries}
+use Rattle.bilinear.proofs.Laws.{form}
+use Rattle.numbers.specs.Numbers.{held_from}
 use Rattle.two_call.specs.TwoNumbers.{turn_from, turn?, held_by, two_from}
-use Rattle.two_call.proofs.state_from.Goals.{After-turn_known}
+use Rattle.std.proofs.Common.{rules}
+use Rattle.two_call.proofs.state_from.Goals.{then-turn_known, else-turn_known}
 use Rattle.two_call.proofs.state_from.Goals as goal
-
-abbrev numbers : After-turn_known → List ℤ
-numbers c = c.args.eleven.now
-
--- what is read before the turn decides
-form-read : (c : After-turn_known) → let m = c.before.before.before.before.before.before in
-    form m.matrix_from.result m.matrix_from-2.result ≡ form (entries (numbers c)) (entries (drop 4 (numbers c)))
-form-read c =
-    let m = c.before.before.before.before.before.before in
-    let s = m.before.before.before in
-    let under : m.matrix_from-2.result ≡ entries (drop 4 (numbers c)) = m.matrix_from-2.ensures ∙ rw (known (pos 0) 11 s.args.eleven.now s.requires) in
-    λ i. form (m.matrix_from.ensures i) (under i)
-
-y-read : (c : After-turn_known) → c.held_from-y.result ≡ held_from (at (numbers c) 9)
-y-read c = let h = c.before.before.before.before in h.held_from-y.ensures ∙ ap held_from (ok_back h.held_from-arg-1.given)
-
-turn-read : (c : After-turn_known) → c.turn_from-turn.result ≡ turn_from (at (numbers c) 10)
-turn-read c = let t = c.before.before in t.turn_from-turn.ensures ∙ ap turn_from {y = at (numbers c) 10} (ok_back t.turn_from-arg-1.given)
-
-known_read : (c : After-turn_known) → c.turn_known.result ≡ turn? (at (numbers c) 10)
-known_read c = c.turn_known.ensures ∙ ap turn? {y = at (numbers c) 10} (ok_back c.turn_known-arg-1.given)
-
-pub returns-then-not-turn_known : goal.returns-then-not-turn_known
-unfolding two_from
-returns-then-not-turn_known c =
-    let k = c.before in
-    let x : Digit 255 ≡ held_by (at (numbers k) 10) (held_from (at (numbers k) 8)) = rw (sym (known_read k) ∙ c.if-not-turn_known.true) in
-    λ i. record { form = form-read k i; x = x i; y = y-read k i; turn = turn-read k i }
 
 pub returns : goal.returns
 unfolding two_from
 returns c =
-    let l = c.before.before in
-    let k = l.before in
-    let x : c.held_from-x.result ≡ held_by (at (numbers k) 10) (held_from (at (numbers k) 8)) =
-    rw (sym (known_read k) ∙ l.if-not-turn_known.false) (c.held_from-x.ensures ∙ ap held_from (ok_back c.held_from-arg-2-1.given)) in
-    λ i. record { form = form-read k i; x = x i; y = y-read k i; turn = turn-read k i }
+    let l = c.args.eleven.now in
+    let under : c.matrix_from-2.result ≡ entries (drop 4 l) = search rules in
+    let known : c.turn_known.result ≡ turn? (at l 10) = search rules in
+    let x : c.if-turn_known.result ≡ held_by (at l 10) (held_from (at l 8)) = elim c.if-turn_known.branch [
+      | then-turn_known w ↦ let read : w.held_from.result ≡ held_from (at l 8) = search rules in w.result-is ∙ rw (sym known ∙ w.if-turn_known.true) read
+      | else-turn_known w ↦ w.result-is ∙ rw (sym known ∙ w.if-turn_known.false)
+    ] in
+    let y : c.held_from-2.result ≡ held_from (at l 9) = search rules in
+    let turn : c.turn_from.result ≡ turn_from (at l 10) = search rules in
+    (λ i. record { form = form (c.matrix_from.ensures i) (under i); x = x i; y = y i; turn = turn i })

@@ -1,8 +1,8 @@
 -- `two_steps::step` meets its contract, by the cases of what is held.
 use Rattle.whole.proofs.Laws.{sym, subst, subst₂, ◌-◌, drop}
-use Rattle.digits.proofs.Laws.{lent}
+use Rattle.digits.proofs.Laws.{system_of}
 use Rattle.runs.proofs.Laws.{Supply}
-use Rattle.states.proofs.Laws.{Held, Stop}
+use Rattle.states.proofs.Laws.{Held}
 use Rattle.steps.proofs.Laws.{Setting, setting}
 use Rattle.two_states.proofs.Laws.{TwoState}
 use Rattle.two_steps.specs.Types.{Move}
@@ -18,35 +18,30 @@ By y s w m h k = Follows (plan_by y s h k) s w m
 
 -- ---- a digit is missing
 
-pub returns-in-Nothing : goal.returns-in-Nothing
-returns-in-Nothing c =
+pub returns-in-None-default : goal.returns-in-None-default
+returns-in-None-default c =
     let a = c.args in
-    let y = setting (lent a.input_count a.input_columns.now) (lent a.output_count a.output_columns.now) in
+    let y = setting (system_of a.inputs.now) (system_of a.outputs.now) in
     let w = two_words (drop a.i a.xs.now) (drop a.j a.ys.now) (a.room - a.o) in
-    subst (λ (h : Held). By y a.s w c.load_x.result h a.s.y) (sym c.in-Nothing.is) (c.load_x.ensures _ _ _ _ c.next_byte.ensures)
+    subst (λ (h : Held). By y a.s w c.load.result h a.s.y) (sym c.in-None-default.is-0) (c.load.ensures _ _ _ _ c.next_byte.ensures)
 
-pub returns-in-Nothing-y : goal.returns-in-Nothing-y
-returns-in-Nothing-y c =
+pub returns-in-Some-None : goal.returns-in-Some-None
+returns-in-Some-None c =
     let a = c.args in
-    let y = setting (lent a.input_count a.input_columns.now) (lent a.output_count a.output_columns.now) in
+    let y = setting (system_of a.inputs.now) (system_of a.outputs.now) in
     let w = two_words (drop a.i a.xs.now) (drop a.j a.ys.now) (a.room - a.o) in
-    subst₂ (By y a.s w c.load_y.result) (sym c.in-Digit.is) (sym c.in-Nothing-y.is) (c.load_y.ensures _ _ _ _ c.next_byte-in-Nothing-y.ensures)
+    subst₂ (By y a.s w c.load-in-Some-None.result) (sym c.in-Some-None.is-0) (sym c.in-Some-None.is-1) (c.load-in-Some-None.ensures _ _ _ _ c.next_byte-in-Some-None.ensures)
 
 -- ---- both are held
 
 pub emit-requires : goal.emit-requires
 emit-requires c =
-    let p = c.requires in
-    let r = p.2 in (
-      works _ p.0 r.input r.state (held_below r.state.held_x c.in-Digit.is),
-      works _ p.0 r.input r.state (held_below r.state.held_y c.in-Digit-y.is),
-      p.1,
-      r.output,
-    )
+    let r = c.requires in
+    (works _ r.input r.state (held_below r.state.held_x c.in-Some-Some.is-0), works _ r.input r.state (held_below r.state.held_y c.in-Some-Some.is-1), r.output)
 
-pub returns-in-Digit-y : goal.returns-in-Digit-y
-returns-in-Digit-y c =
+pub returns-in-Some-Some : goal.returns-in-Some-Some
+returns-in-Some-Some c =
     let a = c.args in
-    let y = setting (lent a.input_count a.input_columns.now) (lent a.output_count a.output_columns.now) in
+    let y = setting (system_of a.inputs.now) (system_of a.outputs.now) in
     let w = two_words (drop a.i a.xs.now) (drop a.j a.ys.now) (a.room - a.o) in
-    subst₂ (By y a.s w c.emit.result) (sym c.in-Digit.is) (sym c.in-Digit-y.is) (c.emit.ensures a.input_count _ _)
+    subst₂ (By y a.s w c.emit.result) (sym c.in-Some-Some.is-0) (sym c.in-Some-Some.is-1) (c.emit.ensures _ _)

@@ -1,23 +1,21 @@
 -- `unary::run_judged` meets its contract. The invariant: the loop stands in the run (`Stands`), what the steps rely on is kept, and k is 1 if nothing was held at the start, and else
 -- 0. Each turn is one step, by its law in proofs/Turn.antt.
-use Rattle.whole.proofs.Laws.{◌≡◌, ap, ◌∙◌, List, inl, inr, ℕ, ◌+◌, ◌<◌, arith, ℤ}
-use Rattle.digits.proofs.Laws.{lent}
+use Rattle.whole.proofs.Laws.{◌≡◌, ap, ◌∙◌, ◌+◌, arith}
 use Rattle.states.proofs.Laws.{held_count}
-use Rattle.steps.proofs.Laws.{Setting, setting, Ready}
 use Rattle.unary.specs.Types.{Answer}
 use Rattle.unary.specs.Run.{ran}
-use Rattle.unary.proofs.Turn.{lent_to, Stands, stands_first, steps_left, Turn, turn, ready_kept}
+use Rattle.unary.proofs.Turn.{lent_to, stands_first, turn, ready_kept}
 use Rattle.unary.proofs.run_judged.Invariants.{both}
-use Rattle.unary.proofs.run_judged.Goals.{in-Nothing, in-Digit, After-step-m, At-loop-stop}
+use Rattle.unary.proofs.run_judged.Goals.{in-None, in-Some, After-step-m, At-loop-stop}
 use Rattle.unary.proofs.run_judged.Goals as goal
 
 pub loop-stop-init : goal.loop-stop-init
 loop-stop-init c =
     let a = c.args in
-    let first : c.match-held.k + held_count a.s.held ≡ 1 = elim c.match-held.branch [ in-Nothing w ↦ omega (arith, ap held_count w.in-Nothing.is) | in-Digit w ↦ omega (arith, ap held_count w.in-Digit.is) ] in (
-      c.requires.2,
+    let first : c.match-held.k + held_count a.s.held ≡ 1 = elim c.match-held.branch [ in-None w ↦ omega (arith, ap held_count w.in-None.is) | in-Some w ↦ omega (arith, ap held_count w.in-Some.is) ] in (
+      c.requires.0,
       first,
-      stands_first (both a.input_count a.input_columns.now a.output_count a.output_columns.now) a.s
+      stands_first (both a.inputs.now a.outputs.now) a.s
           (lent_to a.input.now a.output.now a.divisors.now),
     )
 
@@ -91,4 +89,4 @@ pub overflow_add-divisors : goal.overflow_add-divisors
 overflow_add-divisors c = let h = c.loop-stop.invariant in omega (arith, c.well_formed, h.1, h.2.here.list_length)
 
 pub step-m-requires : goal.step-m-requires
-step-m-requires c = let p = c.requires in (p.0, p.1, c.loop-stop.invariant.0, p.3)
+step-m-requires c = (c.loop-stop.invariant.0, c.requires.1)

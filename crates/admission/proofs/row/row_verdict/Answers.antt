@@ -1,8 +1,8 @@
 -- `admission::row::row_verdict` meets its contract: the code asks the tests of `row_verdict` in their order, and what it hands on has passed those before.
-use Rattle.whole.proofs.Laws.{not-true, not-false, eq-eqb, ne_eqb, ◌≡◌, sym, ◌∙◌, true, not, cond, ◌&&◌, pos, le_z, true_both, within_says, within?, lowest?, held}
+use Rattle.whole.proofs.Laws.{eq-eqb, ne_eqb, ◌≡◌, sym, ◌∙◌, true, not, cond, ◌&&◌, pos, le_z, true_both, within_says, within?, lowest?, held}
 use Rattle.plane.proofs.Laws.{above, below, within_products}
 use Rattle.admission.specs.Admission.{lowest_ends?, row_verdict}
-use Rattle.admission.specs.Types.{Admitted, NotBelow, NotLowest}
+use Rattle.admission.specs.Types.{Admitted, Err, NotBelow, NotLowest}
 use Rattle.admission.proofs.row.row_verdict.Goals.{After-determinant-2, After-lowest_ends, Else-determinant-ge0, Else-not-within, Else-not-within-2}
 use Rattle.admission.proofs.row.row_verdict.Goals as goal
 
@@ -18,7 +18,7 @@ range c = true_both (range-f c.before.before) (range-w c)
 
 -- the verdict where 6 and 7 do not apply, where 8 does not either, and where F is in lowest terms
 from-8 : (c : After-determinant-2) → let a = c.args in
-    row_verdict a.f a.w ≡ cond (not (le_z (pos 0) (held c.determinant-2.result))) (cond (lowest? a.f && lowest_ends? a.w) Admitted NotLowest) NotBelow
+    row_verdict a.f a.w ≡ cond (not (le_z (pos 0) (held c.determinant-2.result))) (cond (lowest? a.f && lowest_ends? a.w) Admitted (Err NotLowest)) (Err NotBelow)
 unfolding row_verdict
 from-8 c =
     let p = c.before in
@@ -26,11 +26,11 @@ from-8 c =
     rw (range f.before, above f.determinant.type_inv f.determinant.ensures, p.if-determinant-le0.false, below c.determinant-2.type_inv c.determinant-2.ensures)
 
 from-9 : (c : Else-determinant-ge0) → let a = c.args in
-    row_verdict a.f a.w ≡ cond (lowest? a.f && lowest_ends? a.w) Admitted NotLowest
+    row_verdict a.f a.w ≡ cond (lowest? a.f && lowest_ends? a.w) Admitted (Err NotLowest)
 from-9 c = rw (from-8 c.before, c.if-determinant-ge0.false)
 
 ends : (c : After-lowest_ends) → let a = c.args in
-    row_verdict a.f a.w ≡ cond c.lowest_ends.result Admitted NotLowest
+    row_verdict a.f a.w ≡ cond c.lowest_ends.result Admitted (Err NotLowest)
 ends c = let g = c.before.before in rw (from-9 g.before, sym g.divisor.ensures, eq-eqb _ _ c.if-divisor-ne1.false, sym c.lowest_ends.ensures)
 
 pub returns-then-not-within : goal.returns-then-not-within

@@ -1,7 +1,6 @@
 -- `digits::orders::in_rows` meets its contract. The invariant: the first p numbers of the rows are written.
-use Rattle.whole.proofs.Laws.{sym, ◌∙◌, ◌-◌, ◌≤◌, arith, length, element_16, Copied, copy_none, copy_one, copied}
+use Rattle.whole.proofs.Laws.{sym, ap, ◌∙◌, arith, length, at, element_16, copied, copy_one}
 use mir.Facts.{to_z-of_z}
-use Rattle.digits.specs.Orders.{rows_in}
 use Rattle.digits.proofs.Places.{rows_length, rows_at}
 use Rattle.std.proofs.Common.{rules}
 use Rattle.digits.proofs.orders.in_rows.Goals as goal
@@ -11,12 +10,11 @@ loop-p-preserved c =
     let l = c.loop-p in
     let a = c.args in
     let size = rows_length (length a.rows.now) a.columns.now in
-    (search rules, copy_one l.invariant.1 (search rules) (omega (arith, size)) (to_z-of_z (element_16 _ c.rows-1.given) ∙ sym (rows_at _ a.columns.now l.p (omega arith))))
+    let below = c.loop-p-test.true in
+    copy_one l.invariant (omega (arith, below)) (omega (arith, size, below))
+    (to_z-of_z (element_16 _ (search rules)) ∙ ap (at a.columns.now) c.column_place.ensures ∙ sym (rows_at _ a.columns.now l.p (omega (arith, below))))
 
 pub returns : goal.returns
 returns c =
     let a = c.args in
-    copied c.loop-p.invariant.1 (omega arith) (rows_length (length a.rows.now) a.columns.now)
-
-pub loop-p-init : goal.loop-p-init
-loop-p-init c = (search rules, copy_none)
+    copied c.loop-p.invariant (omega (arith, c.loop-p-test.false)) (rows_length (length a.rows.now) a.columns.now)

@@ -14,27 +14,3 @@ pub returns : goal.returns
 returns c =
     let p = c.requires in
     λ i. kept p.0.n0 i ∷ kept p.0.n1 i ∷ kept p.0.n2 i ∷ kept p.0.n3 i ∷ kept p.1.n0 i ∷ kept p.1.n1 i ∷ kept p.1.n2 i ∷ kept p.1.n3 i ∷ []
-
-pub overflow_cast-result : goal.overflow_cast-result
-overflow_cast-result c = fits c.requires.0.n0
-
-pub overflow_cast-result-2 : goal.overflow_cast-result-2
-overflow_cast-result-2 c = fits c.requires.0.n1
-
-pub overflow_cast-result-3 : goal.overflow_cast-result-3
-overflow_cast-result-3 c = fits c.requires.0.n2
-
-pub overflow_cast-result-4 : goal.overflow_cast-result-4
-overflow_cast-result-4 c = fits c.requires.0.n3
-
-pub overflow_cast-result-5 : goal.overflow_cast-result-5
-overflow_cast-result-5 c = fits c.requires.1.n0
-
-pub overflow_cast-result-6 : goal.overflow_cast-result-6
-overflow_cast-result-6 c = fits c.requires.1.n1
-
-pub overflow_cast-result-7 : goal.overflow_cast-result-7
-overflow_cast-result-7 c = fits c.requires.1.n2
-
-pub overflow_cast-result-8 : goal.overflow_cast-result-8
-overflow_cast-result-8 c = fits c.requires.1.n3
