@@ -3,18 +3,18 @@
 #![tactic(auto)]
 
 ghost use Rattle.std.specs.Prelude.{◌≡◌, ◌≤◌};
-ghost use Rattle.digits.specs.Orders.{system_of};
+ghost use Rattle.digits.specs.Orders.{system_of, seen, viewed};
 ghost use Rattle.admission.specs.Admission.{rows_verdict, admission_of};
 
-use digits::System;
+use digits::{System, SystemView};
 use refusals::Refusal;
 
 mod row; // row.rt: refusals 6 to 9
 
 // "System: row by row 6, 7, 8, 9; then 10"; "18, a row not expanding, directly after 10".
-fn rows_verdict(system: &System) -> Result<(), Refusal>
-    requires { system.now.count ≤ 16 }
-    ensures { result ≡ rows_verdict (system_of system.now) }
+fn rows_verdict(system: SystemView) -> Result<(), Refusal>
+    requires { (seen system).count ≤ 16 }
+    ensures { result ≡ rows_verdict (viewed system.entry) }
 {
     for a in 0..system.count {
         row::row_verdict(system.transformation(a), system.interval(a))?;
@@ -29,8 +29,8 @@ fn rows_verdict(system: &System) -> Result<(), Refusal>
 }
 
 // The judgement of a system: of as many digits as its count says, unless that is refused.
-pub fn admission_of(system: &System) -> Result<(), Refusal>
-    ensures { result ≡ admission_of (system_of system.now) }
+pub fn admission_of(system: SystemView) -> Result<(), Refusal>
+    ensures { result ≡ admission_of (viewed system.entry) }
 {
     if system.count == 0 {
         return Err(Refusal::WrongCount);
@@ -45,5 +45,5 @@ pub fn admission_of(system: &System) -> Result<(), Refusal>
 pub fn admit(s: System) -> Result<(), Refusal>
     ensures { result ≡ admission_of (system_of s) }
 {
-    admission_of(&s)
+    admission_of(s.view())
 }

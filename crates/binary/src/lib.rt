@@ -4,12 +4,12 @@
 
 ghost use Rattle.std.specs.Prelude.{◌≡◌};
 ghost use Rattle.refusals.specs.Numbers.{outcome_number};
-ghost use Rattle.digits.specs.Orders.{system_of};
+ghost use Rattle.digits.specs.Orders.{system_of, viewed};
 ghost use Rattle.steps.specs.Step.{setting};
 ghost use Rattle.two_steps.specs.Made.{Ready};
 ghost use Rattle.binary.specs.TwoRun.{two_refusal, two_ran, two_steps_of, two_run};
 
-use digits::System;
+use digits::{System, SystemView};
 use refusals::Refusal;
 use states::Stop;
 use two_states::{Turn, TwoState};
@@ -35,8 +35,8 @@ pub struct TwoAnswer {
 }
 
 // The input system is judged first, which both words are in, then the output system, then the state (12).
-fn refusal(inputs: &System, outputs: &System, s: TwoState) -> Result<(), Refusal>
-    ensures { outcome_number result ≡ two_refusal (setting (system_of inputs.now) (system_of outputs.now)) s }
+fn refusal(inputs: SystemView, outputs: SystemView, s: TwoState) -> Result<(), Refusal>
+    ensures { outcome_number result ≡ two_refusal (setting (viewed inputs.entry) (viewed outputs.entry)) s }
 {
     judging::systems_refusal(inputs, outputs)?;
     if two_states::state_kept(inputs.count, s) {
@@ -48,16 +48,16 @@ fn refusal(inputs: &System, outputs: &System, s: TwoState) -> Result<(), Refusal
 
 // The steps of a run whose systems and state are judged. A digit is written only after the state is known to fit.
 fn run_judged(
-    inputs: &System,
-    outputs: &System,
+    inputs: SystemView,
+    outputs: SystemView,
     s: TwoState,
     xs: &[u8],
     ys: &[u8],
     output: &mut [u8],
 ) -> TwoAnswer
-    requires { Ready (setting (system_of inputs.now) (system_of outputs.now)) s }
+    requires { Ready (setting (viewed inputs) (viewed outputs)) s }
     ensures { two_ran result output.new ≡
-        two_steps_of (setting (system_of inputs.now) (system_of outputs.now)) s xs.now ys.now output.old }
+        two_steps_of (setting (viewed inputs.entry) (viewed outputs.entry)) s xs.now ys.now output.old }
 {
     let mut st = s;
     let mut i: usize = 0;
@@ -93,15 +93,15 @@ fn run_judged(
 
 // A run over systems that are lent. The systems and the state are judged first.
 pub fn run_lent(
-    inputs: &System,
-    outputs: &System,
+    inputs: SystemView,
+    outputs: SystemView,
     state: TwoState,
     xs: &[u8],
     ys: &[u8],
     output: &mut [u8],
 ) -> TwoAnswer
     ensures { two_ran result output.new ≡
-        two_run (system_of inputs.now) (system_of outputs.now) state xs.now ys.now output.old }
+        two_run (viewed inputs.entry) (viewed outputs.entry) state xs.now ys.now output.old }
 {
     match refusal(inputs, outputs, state) {
         Err(refusal) => TwoAnswer {
@@ -126,5 +126,5 @@ pub fn run(
 ) -> TwoAnswer
     ensures { two_ran result output.new ≡ two_run (system_of inputs) (system_of outputs) state xs.now ys.now output.old }
 {
-    run_lent(&inputs, &outputs, state, xs, ys, output)
+    run_lent(inputs.view(), outputs.view(), state, xs, ys, output)
 }

@@ -2,7 +2,7 @@
 -- two by computation, the last along 0, 2, 4, 6 and 7, 1, 3, 5: each digit is fixed by the one before it.
 use Rattle.whole.proofs.Laws.{◌≡◌, refl, List, ℕ, zero, suc, ◌+◌, ◌-◌, ◌%◌, ◌<◌, arith, ℤ, within?, every_passes, first}
 use Rattle.plane.proofs.Laws.{Interval, determinant_of, scale_pair}
-use Rattle.symmetry.proofs.Laws.{interval_in, turned, reflected, SameDigit, digit_refl, digit_sym, digit_trans, digit_signs, digit_turned, digit_reflected, turnable?, turnable_says}
+use Rattle.symmetry.proofs.Laws.{interval_in, SameDigit, digit_refl, digit_sym, digit_trans, digit_signs, digit_turned, digit_reflected, turnable?, turnable_says}
 use Rattle.digits.specs.BuiltIn.{rows_b}
 use Rattle.digits.specs.SystemB.{printed_b, row_at, Symmetric, BySymmetry}
 

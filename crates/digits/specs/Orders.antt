@@ -4,7 +4,7 @@
 -- ask for a digit's `transformation` and `interval`.
 use Rattle.std.specs.Prelude.{◌≡◌, List, [], ◌∷◌, ℕ, zero, suc, ◌+◌, ◌*◌, ◌/◌, ◌%◌, ◌≤◌, ◌<◌, length, ℤ, pos}
 use Rattle.whole.specs.Range.{at}
-use Rattle.digits.specs.Types.{StoredSystem}
+use Rattle.digits.specs.Types.{StoredSystem, SystemView}
 use Rattle.digits.specs.System.{System}
 
 -- an order says at which place number j of digit a stands
@@ -57,6 +57,13 @@ system_of s = lent s.count s.columns
 -- what is lent, as it would stand in memory
 abbrev pub lent_system : ℕ → List ℤ → StoredSystem
 lent_system n columns = record { count = n; columns = columns }
+
+-- what a view sees, as it stands in memory, and as a system
+abbrev pub seen : SystemView → StoredSystem
+seen v = lent_system v.count v.columns.now
+
+abbrev pub viewed : SystemView → System
+viewed v = system_of (seen v)
 
 -- ---- which numbers are there
 

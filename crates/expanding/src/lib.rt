@@ -4,10 +4,10 @@
 
 ghost use Rattle.std.specs.Prelude.{◌≡◌, ◌≤◌};
 ghost use Rattle.whole.specs.Range.{Near, Within};
-ghost use Rattle.digits.specs.Orders.{system_of};
+ghost use Rattle.digits.specs.Orders.{seen, viewed};
 ghost use Rattle.expanding.specs.Expanding.{form_of, grows?, expands?, all_expand?, SmallRows};
 
-use digits::System;
+use digits::SystemView;
 
 // The symmetric matrix q with z·(q·z) = det F·(z0² + z1²) − (squared length of pseudoinverse(F)·z). With s the product of F and F with its rows for columns,
 // [a² + b², ac + bd, ca + db, c² + d²], it is [det F − (c² + d²), ac + bd, ca + db, det F − (a² + b²)].
@@ -51,9 +51,9 @@ fn expands(f: [i64; 4], w: [i64; 4]) -> bool
 }
 
 // Whether every row expands.
-pub fn all_expand(system: &System) -> bool
-    requires { (system.now.count ≤ 16) × (SmallRows (system_of system.now)) }
-    ensures { result ≡ all_expand? (system_of system.now) }
+pub fn all_expand(system: SystemView) -> bool
+    requires { ((seen system).count ≤ 16) × (SmallRows (viewed system)) }
+    ensures { result ≡ all_expand? (viewed system.entry) }
 {
     (0..system.count).all(|a| expands(system.transformation(a), system.interval(a)))
 }

@@ -1,5 +1,7 @@
 -- The test as the code asks it, image by image: what the words hold, and how the answers for single images make the answer for all four.
-use Rattle.whole.proofs.Laws.{◌≡◌, refl, ◌∙◌, ap, Bool, true, false, false≢true, not, ◌&&◌, ◌||◌, List, ℕ, ℤ, pos, le_z, at, Near, back, held}
+use Rattle.whole.proofs.Laws.{◌≡◌, refl, sym, ◌∙◌, ap, Bool, true, false, false≢true, not, ◌&&◌, ◌||◌, List, ℕ, suc, ◌-◌, ◌^◌, arith, eqb, ne_eqb, ℤ, pos, negsuc, nat_abs, le_z, at, Near, back, held, Fits}
+use mir.Syntax.{w64}
+use mir.Val.{of_z}
 use Rattle.plane.proofs.Laws.{Pair, pair_equal}
 use Rattle.bilinear.proofs.Laws.{Form}
 use Rattle.giving.specs.MayGive.{coefficients, all_coefficients, none_below?, none_above?, one_sided?, columns_of_form}
@@ -55,3 +57,17 @@ module _ (u : List ℤ) (m : Form) where
   pub first_fails : not (none_below? (of 0) || none_above? (of 0)) ≡ true → one_sided? (all_coefficients u (columns_of_form m)) ≡ false
   first_fails e = by_images ∙ neither (none_below? (of 0)) (none_below? (of 1)) (none_below? (of 2)) (none_below? (of 3))
       (none_above? (of 0)) (none_above? (of 1)) (none_above? (of 2)) (none_above? (of 3)) e
+
+-- ---- "no image is (0, 0)"
+
+-- a word that holds z is 0 just where z is
+pub word_nought : (z : ℤ) → Fits z → eqb (of_z w64 z) 0 ≡ eqb (nat_abs z) 0
+word_nought (pos n) f = refl
+word_nought (negsuc n) f = ne_eqb (2 ^ 64 - suc n) 0 (λ e. omega (arith, f)) ∙ sym (ne_eqb (suc n) 0 (λ e. omega arith))
+
+pub one_of_four : (a b c d : Bool) → (((a || b) || c) || d) ≡ (a || (b || (c || (d || false))))
+one_of_four true b c d = refl
+one_of_four false true c d = refl
+one_of_four false false true d = refl
+one_of_four false false false true = refl
+one_of_four false false false false = refl

@@ -5,12 +5,12 @@ ghost use Rattle.std.specs.Prelude.{◌≡◌, ◌≤◌};
 ghost use Rattle.whole.specs.Range.{at, Near, Within};
 ghost use Rattle.plane.specs.Plane.{left};
 ghost use Rattle.bilinear.specs.Lowest.{WithinForm};
-ghost use Rattle.digits.specs.Orders.{system_of};
+ghost use Rattle.digits.specs.Orders.{seen, viewed};
 ghost use Rattle.fitting.specs.FirstFit.{Searchable, fitting};
 ghost use Rattle.giving.specs.MayGive.{images_of, coefficients, all_coefficients, none_below?, none_above?, one_sided?, some_nought?, giving_of, columns_of_form};
 
 use bilinear::Form;
-use digits::System;
+use digits::SystemView;
 
 // The four images of the pairs of interval ends, formed once for all digits that are tried: the ends of v absorbed in x, and those of w in y.
 pub fn images(m: Form, v: [i64; 4], w: [i64; 4]) -> Form
@@ -71,17 +71,24 @@ fn one_sided(images: Form, u: [i64; 4]) -> bool
         | (down & none_above(second) & none_above(third) & none_above(fourth))
 }
 
-// Whether some image is (0, 0). No digit's interval has to be looked at for that.
+// Whether some image is (0, 0). No digit's interval has to be looked at for that. (No `any`: all four are asked, so that there is nothing to branch on but the answer.)
 fn some_nought(images: Form) -> bool
     ensures { result ≡ some_nought? (columns_of_form images) }
 {
-    (0..4).any(|i: usize| (images.numerator[i] == 0) & (images.denominator[i] == 0))
+    let Form {
+        numerator: over,
+        denominator: under,
+    } = images;
+    ((over[0] == 0) & (under[0] == 0))
+        | ((over[1] == 0) & (under[1] == 0))
+        | ((over[2] == 0) & (under[2] == 0))
+        | ((over[3] == 0) & (under[3] == 0))
 }
 
 // "the smallest such c"
-pub fn giving_digit(outputs: &System, images: Form) -> Option<u8>
-    requires { (outputs.now.count ≤ 16) × (Searchable (system_of outputs.now)) × (WithinForm 40000000000000 images) }
-    ensures { result ≡ fitting (giving_of (system_of outputs.now) (columns_of_form images)) }
+pub fn giving_digit(outputs: SystemView, images: Form) -> Option<u8>
+    requires { ((seen outputs).count ≤ 16) × (Searchable (viewed outputs)) × (WithinForm 40000000000000 images) }
+    ensures { result ≡ fitting (giving_of (viewed outputs.entry) (columns_of_form images)) }
 {
     if some_nought(images) {
         return None;

@@ -69,13 +69,13 @@ fn columns_in(bytes: &[u8]) -> [i16; 128]
 pub fn system_section(bytes: &[u8]) -> Result<Part<System>, Refusal>
     ensures { Answered system_of bytes.now result }
 {
-    let count = sections::presence(bytes, 1, 16, Refusal::WrongCount, 16)?;
+    let count = sections::presence(bytes, 1, 16, Refusal::CutOff, Refusal::WrongCount, 16)?;
     let size = 2 + 16 * count;
     let value = System {
         count,
         columns: columns_in(&bytes[2..size]),
     };
-    admission::admission_of(&value)?;
+    admission::admission_of(value.view())?;
     Ok(Part { size, value })
 }
 
@@ -83,7 +83,7 @@ pub fn system_section(bytes: &[u8]) -> Result<Part<System>, Refusal>
 pub fn matrix_section(bytes: &[u8]) -> Result<Part<[i64; 4]>, Refusal>
     ensures { Answered matrixOf bytes.now result }
 {
-    sections::presence(bytes, 4, 4, Refusal::MatrixCount, 2)?;
+    sections::presence(bytes, 4, 4, Refusal::CutOff, Refusal::MatrixCount, 2)?;
     let numbers = &bytes[2..10];
     let value = [
         i64::from(number_at(numbers, 0)),

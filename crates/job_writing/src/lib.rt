@@ -4,10 +4,11 @@
 
 ghost use Rattle.std.specs.Prelude.{◌≡◌, ◌+◌, ◌*◌, ◌≤◌};
 ghost use Rattle.whole.specs.Written.{written};
+ghost use Rattle.digits.specs.Orders.{seen};
 ghost use Rattle.job_sections.specs.Layout.{layout_of};
 ghost use Rattle.job_writing.specs.Writing.{contents, Fits, judged_of, wrote, write_of, written_as};
 
-use digits::System;
+use digits::SystemView;
 use job_sections::{FileRefusal, in_section};
 use refusals::Refusal;
 
@@ -21,12 +22,12 @@ fn file_size(in_count: usize, out_count: usize, word: usize) -> usize
 
 // "Refusals: those of the reader for the same contents, in its order". What passes may be written, where there is room for it.
 fn judge(
-    input: &System,
-    output: &System,
+    input: SystemView,
+    output: SystemView,
     matrix: [i64; 4],
     word: &[u8],
 ) -> Result<usize, FileRefusal>
-    ensures { written_as result ≡ judged_of (contents input.now output.now matrix word.now) }
+    ensures { written_as result ≡ judged_of (contents (seen input.entry) (seen output.entry) matrix word.now) }
 {
     in_section(admission::admission_of(input), 0)?;
     in_section(admission::admission_of(output), 1)?;
@@ -38,9 +39,15 @@ fn judge(
 }
 
 // The four sections, one behind the other.
-fn put_sections(input: &System, output: &System, matrix: [i64; 4], word: &[u8], buffer: &mut [u8])
-    requires { Fits (contents input.now output.now matrix word.now) buffer.old }
-    ensures { buffer.new ≡ written (layout_of (contents input.now output.now matrix word.now)) buffer.old }
+fn put_sections(
+    input: SystemView,
+    output: SystemView,
+    matrix: [i64; 4],
+    word: &[u8],
+    buffer: &mut [u8],
+)
+    requires { Fits (contents (seen input) (seen output) matrix word.now) buffer.old }
+    ensures { buffer.new ≡ written (layout_of (contents (seen input.entry) (seen output.entry) matrix word.now)) buffer.old }
 {
     let a = written_sections::put_system(buffer, input);
     let b = a + written_sections::put_system(&mut buffer[a..], output);
@@ -50,13 +57,13 @@ fn put_sections(input: &System, output: &System, matrix: [i64; 4], word: &[u8], 
 
 // The file, of systems that are lent, and how many bytes it has. "Refusals: those of the reader ..; then 14, buffer too short, nothing written."
 pub fn write_lent(
-    input: &System,
-    output: &System,
+    input: SystemView,
+    output: SystemView,
     matrix: [i64; 4],
     word: &[u8],
     buffer: &mut [u8],
 ) -> Result<usize, FileRefusal>
-    ensures { wrote (written_as result) buffer.new ≡ write_of (contents input.now output.now matrix word.now) buffer.old }
+    ensures { wrote (written_as result) buffer.new ≡ write_of (contents (seen input.entry) (seen output.entry) matrix word.now) buffer.old }
 {
     let size = judge(input, output, matrix, word)?;
     if buffer.len() < size {

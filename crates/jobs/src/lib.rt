@@ -37,7 +37,8 @@ pub fn read(file: &[u8]) -> Result<Job, FileRefusal>
     let third = in_section(job_sections::matrix_section(&file[b..]), 2)?;
     let c = b + third.size;
     let rest = &file[c..];
-    let length = in_section(sections::presence(rest, 0, 4096, Refusal::WordCount, 1), 3)?;
+    let length = sections::presence(rest, 0, 4096, Refusal::CutOff, Refusal::WordCount, 1);
+    let length = in_section(length, 3)?;
     if 2 + length < rest.len() {
         return in_section(Err(Refusal::BytesFollow), 3);
     }
@@ -63,5 +64,5 @@ pub fn write(
 ) -> Result<usize, FileRefusal>
     ensures { wrote (written_as result) buffer.new ≡ write_of (contents input output matrix word.now) buffer.old }
 {
-    job_writing::write_lent(&input, &output, matrix, word, buffer)
+    job_writing::write_lent(input.view(), output.view(), matrix, word, buffer)
 }

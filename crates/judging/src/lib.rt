@@ -3,11 +3,11 @@
 
 ghost use Rattle.std.specs.Prelude.{◌≡◌, true};
 ghost use Rattle.refusals.specs.Numbers.{outcome_number};
-ghost use Rattle.digits.specs.Orders.{system_of};
+ghost use Rattle.digits.specs.Orders.{viewed};
 ghost use Rattle.steps.specs.Step.{setting};
 ghost use Rattle.judging.specs.Refusal.{state?, refusal_by, refusal_of};
 
-use digits::System;
+use digits::SystemView;
 use refusals::Refusal;
 use states::State;
 
@@ -23,16 +23,16 @@ fn state_kept(n: usize, s: State) -> bool
 
 // "A run judges its input system (3, 6 to 10), its output system, then the state (12), before any step", and each system by 18, "directly after 10, also in runs": of the two
 // systems.
-pub fn systems_refusal(inputs: &System, outputs: &System) -> Result<(), Refusal>
-    ensures { outcome_number result ≡ refusal_by (setting (system_of inputs.now) (system_of outputs.now)) true }
+pub fn systems_refusal(inputs: SystemView, outputs: SystemView) -> Result<(), Refusal>
+    ensures { outcome_number result ≡ refusal_by (setting (viewed inputs.entry) (viewed outputs.entry)) true }
 {
     admission::admission_of(inputs)?;
     admission::admission_of(outputs)
 }
 
 // And then of the state.
-pub fn refusal(inputs: &System, outputs: &System, s: State) -> Result<(), Refusal>
-    ensures { outcome_number result ≡ refusal_of (setting (system_of inputs.now) (system_of outputs.now)) s }
+pub fn refusal(inputs: SystemView, outputs: SystemView, s: State) -> Result<(), Refusal>
+    ensures { outcome_number result ≡ refusal_of (setting (viewed inputs.entry) (viewed outputs.entry)) s }
 {
     systems_refusal(inputs, outputs)?;
     if state_kept(inputs.count, s) {

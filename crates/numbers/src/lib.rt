@@ -3,11 +3,12 @@
 #![tactic(auto)]
 
 ghost use Rattle.std.specs.Prelude.{◌≡◌, ◌++◌, ◌≤◌, length, drop, SomeIff};
+ghost use Rattle.std.specs.Option.{option_map};
 ghost use Rattle.plane.specs.Scale.{entries};
-ghost use Rattle.digits.specs.Orders.{Columns, lent_system};
+ghost use Rattle.digits.specs.Orders.{Columns, lent_system, seen};
 ghost use Rattle.numbers.specs.Numbers.{held_number, state_numbers, held_from, state_from, wrote, handed_out};
 
-use digits::System;
+use digits::{System, SystemView};
 use states::State;
 
 // The number that refuses a slice of the wrong length.
@@ -15,12 +16,12 @@ pub const WRONG_LENGTH: u32 = 40;
 
 // ---- a system
 
-// The system that is lent as its count of digits and its columns, or none where these are not 128 numbers.
-pub fn system_from(digits: usize, columns: &[i16]) -> Option<System>
-    ensures { SomeIff result (length columns.now ≡ 128) (lent_system digits columns.now) }
+// The system that is lent as its count of digits and its columns, which stay where they are; or none where these are not 128 numbers.
+pub fn system_from(digits: usize, columns: &[i16]) -> Option<SystemView<'_>>
+    ensures { SomeIff (option_map seen result) (length columns.now ≡ 128) (lent_system digits columns.now) }
 {
-    let columns = <[i16; 128]>::try_from(columns).ok()?;
-    Some(System {
+    let columns = <&[i16; 128]>::try_from(columns).ok()?;
+    Some(SystemView {
         count: digits,
         columns,
     })

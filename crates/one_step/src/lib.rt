@@ -6,12 +6,12 @@ ghost use Rattle.whole.specs.Range.{Within};
 ghost use Rattle.plane.specs.Plane.{determinant_of, image_of};
 ghost use Rattle.digits.specs.System.{SameDigits, interval};
 ghost use Rattle.digits.specs.BuiltIn.{table_of, rows_r, rows_b};
-ghost use Rattle.digits.specs.Orders.{system_of};
+ghost use Rattle.digits.specs.Orders.{viewed};
 ghost use Rattle.fitting.specs.FirstFit.{fitting_of, fitting, fits};
 ghost use Rattle.steps.specs.Step.{setting, one_word, chosen, held_plan, emit_plan, plan};
 ghost use Rattle.steps.specs.Made.{Follows, WorksWith, WorksWhere, OfR, HeldRecognised, Recognised, Usable, Ready};
 
-use digits::System;
+use digits::SystemView;
 use states::State;
 use steps::Move;
 
@@ -19,8 +19,8 @@ use steps::Move;
 #[inline(always)]
 fn emitted(
     r: bool,
-    inputs: &System,
-    outputs: &System,
+    inputs: SystemView,
+    outputs: SystemView,
     s: State,
     h: u8,
     fit: Option<u8>,
@@ -29,8 +29,8 @@ fn emitted(
     p: usize,
     list: usize,
 ) -> Move
-    requires { (WorksWith (system_of inputs.now) s h) × (OfR r (system_of inputs.now) h) × (WorksWhere r (system_of outputs.now) s (fits fit)) }
-    ensures { (bytes : List ℕ) → Follows (held_plan (setting (system_of inputs.now) (system_of outputs.now)) s h (fits fit)) s (one_word bytes (room - o) (list - p)) result }
+    requires { (WorksWith (viewed inputs) s h) × (OfR r (viewed inputs) h) × (WorksWhere r (viewed outputs) s (fits fit)) }
+    ensures { (bytes : List ℕ) → Follows (held_plan (setting (viewed inputs.entry) (viewed outputs.entry)) s h (fits fit)) s (one_word bytes (room - o) (list - p)) result }
 {
     match fit {
         Some(b) => steps::give(r, outputs, s, b, o, room, p, list),
@@ -47,9 +47,9 @@ fn fitting_of_r(s: State, h: u8) -> Option<u8>
 }
 
 // The search of line 4 in any other system, which is B where b is true.
-fn fitting_of(b: bool, inputs: &System, outputs: &System, s: State, h: u8) -> Option<u8>
-    requires { (WorksWith (system_of inputs.now) s h) × (Usable (system_of outputs.now)) × (b ≡ true → SameDigits (system_of outputs.now) (table_of rows_b)) }
-    ensures { result ≡ fitting (chosen (setting (system_of inputs.now) (system_of outputs.now)) s h) }
+fn fitting_of(b: bool, inputs: SystemView, outputs: SystemView, s: State, h: u8) -> Option<u8>
+    requires { (WorksWith (viewed inputs) s h) × (Usable (viewed outputs)) × (b ≡ true → SameDigits (viewed outputs) (table_of rows_b)) }
+    ensures { result ≡ fitting (chosen (setting (viewed inputs.entry) (viewed outputs.entry)) s h) }
 {
     let w = inputs.interval(h as usize);
     let image = products::image(s.matrix, w);
@@ -64,8 +64,8 @@ fn fitting_of(b: bool, inputs: &System, outputs: &System, s: State, h: u8) -> Op
 fn emit(
     r: bool,
     b: bool,
-    inputs: &System,
-    outputs: &System,
+    inputs: SystemView,
+    outputs: SystemView,
     s: State,
     h: u8,
     o: usize,
@@ -73,8 +73,8 @@ fn emit(
     p: usize,
     list: usize,
 ) -> Move
-    requires { (WorksWith (system_of inputs.now) s h) × (Usable (system_of outputs.now)) × (HeldRecognised r b (system_of inputs.now) h (system_of outputs.now)) }
-    ensures { (bytes : List ℕ) → Follows (emit_plan (setting (system_of inputs.now) (system_of outputs.now)) s h) s (one_word bytes (room - o) (list - p)) result }
+    requires { (WorksWith (viewed inputs) s h) × (Usable (viewed outputs)) × (HeldRecognised r b (viewed inputs) h (viewed outputs)) }
+    ensures { (bytes : List ℕ) → Follows (emit_plan (setting (viewed inputs.entry) (viewed outputs.entry)) s h) s (one_word bytes (room - o) (list - p)) result }
 {
     if r {
         let fit = fitting_of_r(s, h);
@@ -89,8 +89,8 @@ fn emit(
 pub fn step(
     r: bool,
     b: bool,
-    inputs: &System,
-    outputs: &System,
+    inputs: SystemView,
+    outputs: SystemView,
     s: State,
     input: &[u8],
     i: usize,
@@ -99,8 +99,8 @@ pub fn step(
     p: usize,
     list: usize,
 ) -> Move
-    requires { (Ready (setting (system_of inputs.now) (system_of outputs.now)) s) × (Recognised r b (setting (system_of inputs.now) (system_of outputs.now))) }
-    ensures { Follows (plan (setting (system_of inputs.now) (system_of outputs.now)) s) s (one_word (drop i input.now) (room - o) (list - p)) result }
+    requires { (Ready (setting (viewed inputs) (viewed outputs)) s) × (Recognised r b (setting (viewed inputs) (viewed outputs))) }
+    ensures { Follows (plan (setting (viewed inputs.entry) (viewed outputs.entry)) s) s (one_word (drop i input.now) (room - o) (list - p)) result }
 {
     match s.held {
         None => steps::load(inputs.count, s, input, i),

@@ -23,7 +23,7 @@ pub fn sled_admit(digits: usize, columns: &[i16]) -> u32
     let Some(system) = numbers::system_from(digits, columns) else {
         return WRONG_LENGTH;
     };
-    u32::from(refusals::outcome_number(admission::admission_of(&system)))
+    u32::from(refusals::outcome_number(admission::admission_of(system)))
 }
 
 // A system's rows, one behind the other, into columns.

@@ -4,21 +4,29 @@
 ghost use Rattle.std.specs.Prelude.{◌≡◌, leb, nat_abs};
 ghost use Rattle.whole.specs.Range.{within?};
 
-// Whether a number lies in −B..B. The bound is a constant, so that the two comparisons become one; `unsigned_abs` would be worked out before it. No i64 lies further from 0 than a
-// bound that is none.
-fn near<const B: u64>(a: i64) -> bool
-    ensures { result ≡ leb (nat_abs a) B }
+// Whether a number lies in −b..b. No i64 lies further from 0 than a bound that is none.
+#[inline(always)]
+fn near(a: i64, b: u64) -> bool
+    ensures { result ≡ leb (nat_abs a) b }
 {
-    match i64::try_from(B) {
+    match i64::try_from(b) {
         Ok(bound) => (-bound <= a) & (a <= bound),
         Err(_) => true,
     }
 }
 
-// Whether four numbers lie in −B..B. Of any four numbers at all. All four are looked at, so that there is nothing to branch on but the answer.
+// Whether four numbers lie in −b..b. Of any four numbers and any bound at all. All four are looked at, so that there is nothing to branch on but the answer.
+#[inline(always)]
+pub fn within_bound(m: [i64; 4], b: u64) -> bool
+    ensures { result ≡ within? b m }
+{
+    let [p, q, r, s] = m;
+    near(p, b) & near(q, b) & near(r, b) & near(s, b)
+}
+
+// The same of a bound that is a constant, so that the two comparisons of each number become one; `unsigned_abs` would be worked out before it.
 pub fn within<const B: u64>(m: [i64; 4]) -> bool
     ensures { result ≡ within? B m }
 {
-    let [a, b, c, d] = m;
-    near::<B>(a) & near::<B>(b) & near::<B>(c) & near::<B>(d)
+    within_bound(m, B)
 }

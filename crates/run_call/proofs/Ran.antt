@@ -1,5 +1,5 @@
 -- What a run leaves: from what it answered (`a`, `out`, `list`) and what was written of that (`n`, `new`, `counts`), where the lengths are right.
-use Rattle.whole.proofs.Laws.{◌≡◌, ap, ap₂, sym, ◌∙◌, List, [], ◌∷◌, ℕ, ℤ, length, eq-eqb}
+use Rattle.whole.proofs.Laws.{◌≡◌, ap, ◌∙◌, List, [], ◌∷◌, ℕ, ℤ, length, eq-eqb}
 use Rattle.states.proofs.Laws.{State, end_number}
 use Rattle.unary.proofs.Laws.{Answer, Ran, ran, run_of}
 use Rattle.digits.proofs.Laws.{StoredSystem, system_of}

@@ -46,8 +46,8 @@ pub fn run(
         return WRONG_LENGTH;
     }
     let a = unary::run_lent(
-        &inputs,
-        &outputs,
+        inputs,
+        outputs,
         numbers::state_from(state),
         input,
         output,

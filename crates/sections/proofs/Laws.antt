@@ -7,7 +7,7 @@ pub use Rattle.sections.proofs.Files.{nothing_lawful, then_lawful}
 pub use Rattle.sections.proofs.WrittenFiles.{nothing_lawful_of, then_lawful_of}
 pub use Rattle.sections.proofs.Judged.{counted_judged, unwritable_judged, writable_judged, judged_says}
 -- code that reads section after section
-pub use Rattle.sections.proofs.Answers.{present, not_there, refused_there, answered, Reached, start, at_0, left, stops, goes, ended, followed}
+pub use Rattle.sections.proofs.Answers.{CountSays, count_number, count_says, count_there, present, not_there, refused_there, answered, Reached, start, at_0, left, stops, goes, ended, followed}
 -- the definitions
 pub use Rattle.sections.specs.Answered.{Answered, Taken}
 pub use Rattle.sections.specs.Types.{Part}

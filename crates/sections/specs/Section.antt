@@ -1,6 +1,6 @@
 -- A section: a count, and behind it as many bytes for each thing that is counted. "Files are judged in file order: a section's count present (1), count
 -- right (3, 4, 5), section present (1), then contents."
-use Rattle.std.specs.Prelude.{◌≡◌, cond, List, ◌++◌, ℕ, ◌+◌, ◌*◌, ◌≤◌, ◌<◌, ltb, length, take, drop}
+use Rattle.std.specs.Prelude.{◌≡◌, cond, Result, Ok, Err, List, ◌++◌, ℕ, ◌+◌, ◌*◌, ◌≤◌, ◌<◌, ltb, length, take, drop}
 use Rattle.whole.specs.Refusal.{unless_refused}
 use Rattle.sections.specs.Bytes.{two_bytes, count_of, Bytes}
 
@@ -27,6 +27,14 @@ presence l bytes =
     (cond (ltb (count_of bytes) l.least) l.wrong
     (cond (ltb l.most (count_of bytes)) l.wrong
     (cond (ltb (length bytes) (size_of l bytes)) 1 0)))
+
+-- the count, or what is answered of a section that is cut off, in the place of 1, and of a count that is wrong, in the place of `wrong`
+unfoldable pub count_or : {R : Type 0} → R → R → (least most unit : ℕ) → List ℕ → Result ℕ R
+count_or cut_off wrong least most unit bytes =
+    cond (ltb (length bytes) 2) (Err cut_off)
+    (cond (ltb (count_of bytes) least) (Err wrong)
+    (cond (ltb most (count_of bytes)) (Err wrong)
+    (cond (ltb (length bytes) (2 + unit * count_of bytes)) (Err cut_off) (Ok (count_of bytes)))))
 
 -- when bytes are no whole section, and by which number they are refused
 pub data Absent (l : Limits) (bytes : List ℕ) : ℕ → Type 0 where

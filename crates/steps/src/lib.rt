@@ -6,13 +6,13 @@ ghost use Rattle.std.specs.Prelude.{◌≡◌, cond, List, ℕ, ◌-◌, drop};
 ghost use Rattle.whole.specs.Range.{within?};
 ghost use Rattle.whole.specs.Divisor.{gcd4};
 ghost use Rattle.plane.specs.Plane.{multiply_of, cancel_of};
-ghost use Rattle.digits.specs.Orders.{system_of};
+ghost use Rattle.digits.specs.Orders.{viewed};
 ghost use Rattle.states.specs.Types.{RangeLeft};
 ghost use Rattle.steps.specs.Step.{one_word, load_plan, given_matrix, give_plan, absorbed_matrix, absorb_plan};
 ghost use Rattle.steps.specs.Made.{move, halt, Follows, Factors, WorksWith, OfR};
 
 use cancelling::Cancelled;
-use digits::System;
+use digits::SystemView;
 use states::{State, Stop};
 
 // What one step does: where X is cancelled, by which divisor.
@@ -75,9 +75,9 @@ fn product(m: [i64; 4], n: [i64; 4], d: u64) -> Cancelled
 }
 
 // "pseudoinverse(G_b)·X, cancelled". The determinant of a digit of R is 1: there is nothing to cancel.
-fn given_product(r: bool, outputs: &System, s: State, b: u8) -> Cancelled
-    requires { (WorksWith (system_of outputs.now) s b) × (OfR r (system_of outputs.now) b) }
-    ensures { (result.divisor ≡ gcd4 (given_matrix (system_of outputs.now) s b)) × (result.matrix ≡ cancel_of (given_matrix (system_of outputs.now) s b)) }
+fn given_product(r: bool, outputs: SystemView, s: State, b: u8) -> Cancelled
+    requires { (WorksWith (viewed outputs) s b) × (OfR r (viewed outputs) b) }
+    ensures { (result.divisor ≡ gcd4 (given_matrix (viewed outputs.entry) s b)) × (result.matrix ≡ cancel_of (given_matrix (viewed outputs.entry) s b)) }
 {
     if r {
         return Cancelled {
@@ -91,9 +91,9 @@ fn given_product(r: bool, outputs: &System, s: State, b: u8) -> Cancelled
 }
 
 // "X·F_held, cancelled".
-fn absorbed_product(r: bool, inputs: &System, s: State, h: u8) -> Cancelled
-    requires { (WorksWith (system_of inputs.now) s h) × (OfR r (system_of inputs.now) h) }
-    ensures { (result.divisor ≡ gcd4 (absorbed_matrix (system_of inputs.now) s h)) × (result.matrix ≡ cancel_of (absorbed_matrix (system_of inputs.now) s h)) }
+fn absorbed_product(r: bool, inputs: SystemView, s: State, h: u8) -> Cancelled
+    requires { (WorksWith (viewed inputs) s h) × (OfR r (viewed inputs) h) }
+    ensures { (result.divisor ≡ gcd4 (absorbed_matrix (viewed inputs.entry) s h)) × (result.matrix ≡ cancel_of (absorbed_matrix (viewed inputs.entry) s h)) }
 {
     if r {
         return Cancelled {
@@ -109,7 +109,7 @@ fn absorbed_product(r: bool, inputs: &System, s: State, h: u8) -> Cancelled
 // Line 4, its second half: the digit b is given out, if a place is free behind the o that are filled, and one in the list behind the p numbers that stand there.
 pub fn give(
     r: bool,
-    outputs: &System,
+    outputs: SystemView,
     s: State,
     b: u8,
     o: usize,
@@ -117,8 +117,8 @@ pub fn give(
     p: usize,
     list: usize,
 ) -> Move
-    requires { (WorksWith (system_of outputs.now) s b) × (OfR r (system_of outputs.now) b) }
-    ensures { (bytes : List ℕ) → Follows (give_plan (system_of outputs.now) s b) s (one_word bytes (room - o) (list - p)) result }
+    requires { (WorksWith (viewed outputs) s b) × (OfR r (viewed outputs) b) }
+    ensures { (bytes : List ℕ) → Follows (give_plan (viewed outputs.entry) s b) s (one_word bytes (room - o) (list - p)) result }
 {
     if room <= o {
         return Move {
@@ -137,9 +137,9 @@ pub fn give(
 }
 
 // Line 5: the held digit h is absorbed, if a place is free in the list.
-pub fn absorb(r: bool, inputs: &System, s: State, h: u8, p: usize, list: usize) -> Move
-    requires { (WorksWith (system_of inputs.now) s h) × (OfR r (system_of inputs.now) h) }
-    ensures { (bytes : List ℕ) (room : ℕ) → Follows (absorb_plan (system_of inputs.now) s h) s (one_word bytes room (list - p)) result }
+pub fn absorb(r: bool, inputs: SystemView, s: State, h: u8, p: usize, list: usize) -> Move
+    requires { (WorksWith (viewed inputs) s h) × (OfR r (viewed inputs) h) }
+    ensures { (bytes : List ℕ) (room : ℕ) → Follows (absorb_plan (viewed inputs.entry) s h) s (one_word bytes room (list - p)) result }
 {
     if list <= p {
         return Move {

@@ -3,7 +3,7 @@
 #![tactic(auto)]
 
 use states::State;
-use std::io::{self, BufReader, BufWriter};
+use std::io;
 use test_input::{Input, Number};
 use test_output::Output;
 
@@ -71,8 +71,8 @@ fn cases(input: &mut Input, output: &mut Output) {
 
 // What came before a failed read is printed.
 fn main(rt: HostRuntime) -> io::Result<()> {
-    let mut input = Input::new(BufReader::new(rt.alloc(), rt.stdin())?);
-    let mut output = Output::new(BufWriter::new(rt.alloc(), rt.stdout())?);
+    let mut input = Input::new(rt.stdin());
+    let mut output = Output::new(rt.stdout());
     cases(&mut input, &mut output);
     output.finish().and(input.finish())
 }

@@ -5,42 +5,69 @@ ghost use Rattle.std.specs.Prelude.{◌≤◌, length};
 
 use digits::System;
 use states::State;
-use std::io::{self, BufReader, Read, Stdin};
+use std::io::{self, Read, Stdin};
 
-// The standard input behind a buffer. Where a read fails, nothing more is read, as where the input has ended, and `finish` says so.
+// The standard input behind a buffer. Where a read fails, nothing more is read, as where the input has ended, and `finish` says so. (No `BufReader`: its buffer is on the heap, so that `main` could fail
+// before anything is read, and a byte at a time costs these programs up to twice as much.)
 #[derive(Drop)]
 pub struct Input {
-    stdin: BufReader<Stdin>,
+    stdin: Stdin,
+    buffer: [u8; 4096],
+    next: usize,
+    end: usize,
     status: io::Result<()>,
+    ghost ordered: { next ≤ end },
+    ghost in_bounds: { end ≤ 4096 },
 }
 
 impl Input {
-    pub fn new(stdin: BufReader<Stdin>) -> Input {
+    pub fn new(stdin: Stdin) -> Input {
         Input {
             stdin,
+            buffer: [0; 4096],
+            next: 0,
+            end: 0,
             status: Ok(()),
         }
     }
 
     // Whether no read has failed.
     pub fn finish(self) -> io::Result<()> {
-        self.status
+        let Input {
+            stdin: _,
+            buffer: _,
+            next: _,
+            end: _,
+            status,
+        } = self;
+        status
+    }
+
+    // (Out of line, so that the code for a byte that is there is short.)
+    #[inline(never)]
+    fn fill(&mut self) {
+        self.next = 0;
+        self.end = 0;
+        if self.status.is_err() {
+            return;
+        }
+        match self.stdin.read(&mut self.buffer) {
+            Ok(n) => self.end = n,
+            Err(e) => self.status = Err(e),
+        }
     }
 
     // The next byte, and none where the input has ended.
     fn next(&mut self) -> Option<u8> {
-        if self.status.is_err() {
+        if self.next == self.end {
+            self.fill();
+        }
+        if self.next == self.end {
             return None;
         }
-        let mut byte = [0u8];
-        match self.stdin.read(&mut byte) {
-            Ok(0) => None,
-            Ok(_) => Some(byte[0]),
-            Err(e) => {
-                self.status = Err(e);
-                None
-            }
-        }
+        let b = self.buffer[self.next];
+        self.next += 1;
+        Some(b)
     }
 
     fn bytes<const N: usize>(&mut self) -> [u8; N] {

@@ -5,7 +5,7 @@
 #![tactic(auto)]
 
 use digits::System;
-use std::io::{self, BufReader, BufWriter};
+use std::io;
 use test_input::{Input, Number};
 use test_output::Output;
 
@@ -127,8 +127,8 @@ fn answer_all(input: &mut Input, out: &mut Output) {
 
 // What came before a failed read is printed.
 fn main(rt: HostRuntime) -> io::Result<()> {
-    let mut input = Input::new(BufReader::new(rt.alloc(), rt.stdin())?);
-    let mut out = Output::new(BufWriter::new(rt.alloc(), rt.stdout())?);
+    let mut input = Input::new(rt.stdin());
+    let mut out = Output::new(rt.stdout());
     answer_all(&mut input, &mut out);
     out.finish().and(input.finish())
 }

@@ -3,7 +3,7 @@
 // of the refusal, its section, how many bytes were written, and every byte of the buffer afterwards.
 #![tactic(auto)]
 
-use std::io::{self, BufReader, BufWriter};
+use std::io;
 use test_input::{Input, Number};
 use test_output::Output;
 
@@ -46,8 +46,8 @@ fn answer_all(input: &mut Input, output: &mut Output) {
 
 // What came before a failed read is printed.
 fn main(rt: HostRuntime) -> io::Result<()> {
-    let mut input = Input::new(BufReader::new(rt.alloc(), rt.stdin())?);
-    let mut output = Output::new(BufWriter::new(rt.alloc(), rt.stdout())?);
+    let mut input = Input::new(rt.stdin());
+    let mut output = Output::new(rt.stdout());
     answer_all(&mut input, &mut output);
     output.finish().and(input.finish())
 }

@@ -150,6 +150,6 @@ pub fn run(
     if state.len() != 11 || counts.len() != 3 {
         return WRONG_LENGTH;
     }
-    let a = binary::run_lent(&inputs, &outputs, state_from(state), xs, ys, output);
+    let a = binary::run_lent(inputs, outputs, state_from(state), xs, ys, output);
     put_answer(a, state, counts)
 }

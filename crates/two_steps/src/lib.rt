@@ -2,7 +2,7 @@
 #![tactic(auto)]
 
 ghost use Rattle.std.specs.Prelude.{◌≡◌, List, ℕ, ◌-◌, drop};
-ghost use Rattle.digits.specs.Orders.{system_of};
+ghost use Rattle.digits.specs.Orders.{viewed};
 ghost use Rattle.fitting.specs.FirstFit.{fits};
 ghost use Rattle.steps.specs.Step.{setting};
 ghost use Rattle.steps.specs.Made.{Usable};
@@ -13,7 +13,7 @@ mod loading; // loading.rt: a missing digit is loaded
 mod making; // making.rt: the eight numbers that a step makes, before they are cancelled
 
 use bilinear::Form;
-use digits::System;
+use digits::SystemView;
 use states::Stop;
 use two_states::{Turn, TwoState};
 
@@ -72,9 +72,9 @@ fn finished(s: TwoState, fit: Option<u8>, p: Product) -> Move
 }
 
 // The smallest digit that may be given out, where a of x and b of y are held. The four images are formed once for all digits.
-fn chosen(inputs: &System, outputs: &System, s: TwoState, a: u8, b: u8) -> Option<u8>
-    requires { (WorksWith (system_of inputs.now) s a) × (WorksWith (system_of inputs.now) s b) × (Usable (system_of outputs.now)) }
-    ensures { fits result ≡ choice (setting (system_of inputs.now) (system_of outputs.now)) s a b }
+fn chosen(inputs: SystemView, outputs: SystemView, s: TwoState, a: u8, b: u8) -> Option<u8>
+    requires { (WorksWith (viewed inputs) s a) × (WorksWith (viewed inputs) s b) × (Usable (viewed outputs)) }
+    ensures { fits result ≡ choice (setting (viewed inputs.entry) (viewed outputs.entry)) s a b }
 {
     let v = inputs.interval(a as usize);
     let w = inputs.interval(b as usize);
@@ -89,10 +89,18 @@ fn no_room(fit: Option<u8>, o: usize, room: usize) -> bool
 }
 
 // Both are held: the digit that was found is given out, if there is room for it, and where none was found, the one whose turn it is is absorbed.
-fn emit(inputs: &System, outputs: &System, s: TwoState, a: u8, b: u8, o: usize, room: usize) -> Move
-    requires { (WorksWith (system_of inputs.now) s a) × (WorksWith (system_of inputs.now) s b) × (Usable (system_of outputs.now)) }
-    ensures { (xs ys : List ℕ) → Follows (both_held (setting (system_of inputs.now) (system_of outputs.now)) s a b
-        (choice (setting (system_of inputs.now) (system_of outputs.now)) s a b)) s (two_words xs ys (room - o)) result }
+fn emit(
+    inputs: SystemView,
+    outputs: SystemView,
+    s: TwoState,
+    a: u8,
+    b: u8,
+    o: usize,
+    room: usize,
+) -> Move
+    requires { (WorksWith (viewed inputs) s a) × (WorksWith (viewed inputs) s b) × (Usable (viewed outputs)) }
+    ensures { (xs ys : List ℕ) → Follows (both_held (setting (viewed inputs.entry) (viewed outputs.entry)) s a b
+        (choice (setting (viewed inputs.entry) (viewed outputs.entry)) s a b)) s (two_words xs ys (room - o)) result }
 {
     let fit = chosen(inputs, outputs, s, a, b);
     if no_room(fit, o, room) {
@@ -106,8 +114,8 @@ fn emit(inputs: &System, outputs: &System, s: TwoState, a: u8, b: u8, o: usize, 
 
 // One step, first line that applies, behind i and j bytes taken and o digits written, where the output has room for so many in all.
 pub fn step(
-    inputs: &System,
-    outputs: &System,
+    inputs: SystemView,
+    outputs: SystemView,
     s: TwoState,
     xs: &[u8],
     i: usize,
@@ -116,8 +124,8 @@ pub fn step(
     o: usize,
     room: usize,
 ) -> Move
-    requires { Ready (setting (system_of inputs.now) (system_of outputs.now)) s }
-    ensures { Follows (two_plan (setting (system_of inputs.now) (system_of outputs.now)) s) s (two_words (drop i xs.now) (drop j ys.now) (room - o)) result }
+    requires { Ready (setting (viewed inputs) (viewed outputs)) s }
+    ensures { Follows (two_plan (setting (viewed inputs.entry) (viewed outputs.entry)) s) s (two_words (drop i xs.now) (drop j ys.now) (room - o)) result }
 {
     match (s.x, s.y) {
         (None, _) => loading::load(s, Turn::OfX, loading::next_byte(inputs.count, xs, i)),

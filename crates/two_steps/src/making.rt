@@ -2,13 +2,13 @@
 ghost use Rattle.std.specs.Prelude.{◌≡◌, pos, nat_abs, ◌<ℤ◌};
 ghost use Rattle.whole.specs.Range.{Within};
 ghost use Rattle.plane.specs.Plane.{determinant_of};
-ghost use Rattle.digits.specs.Orders.{system_of};
+ghost use Rattle.digits.specs.Orders.{viewed};
 ghost use Rattle.steps.specs.Step.{setting};
 ghost use Rattle.fitting.specs.FirstFit.{fits};
 ghost use Rattle.two_steps.specs.Made.{given_product, absorbed_product, product_by, WorksWith, WorksWhere};
 
 use crate::Product;
-use digits::System;
+use digits::SystemView;
 use two_states::{Turn, TwoState};
 
 // The determinant of a digit's transformation, which is above 0.
@@ -20,9 +20,9 @@ fn determinant_of(f: [i64; 4]) -> u64
 }
 
 // The digit c is given out: pseudoinverse(G_c)·X.
-fn given_product(outputs: &System, s: TwoState, c: u8) -> Product
-    requires { WorksWith (system_of outputs.now) s c }
-    ensures { result ≡ given_product (system_of outputs.now) s c }
+fn given_product(outputs: SystemView, s: TwoState, c: u8) -> Product
+    requires { WorksWith (viewed outputs) s c }
+    ensures { result ≡ given_product (viewed outputs.entry) s c }
 {
     let g = outputs.transformation(c as usize);
     Product {
@@ -32,9 +32,9 @@ fn given_product(outputs: &System, s: TwoState, c: u8) -> Product
 }
 
 // The digit whose turn it is, a of x or b of y, is absorbed.
-fn absorbed_product(inputs: &System, s: TwoState, a: u8, b: u8) -> Product
-    requires { (WorksWith (system_of inputs.now) s a) × (WorksWith (system_of inputs.now) s b) }
-    ensures { result ≡ absorbed_product (system_of inputs.now) s a b s.turn }
+fn absorbed_product(inputs: SystemView, s: TwoState, a: u8, b: u8) -> Product
+    requires { (WorksWith (viewed inputs) s a) × (WorksWith (viewed inputs) s b) }
+    ensures { result ≡ absorbed_product (viewed inputs.entry) s a b s.turn }
 {
     match s.turn {
         Turn::OfX => {
@@ -56,15 +56,15 @@ fn absorbed_product(inputs: &System, s: TwoState, a: u8, b: u8) -> Product
 
 // Where no digit was found, the one whose turn it is is absorbed, and one that was found is given out.
 pub fn step_product(
-    inputs: &System,
-    outputs: &System,
+    inputs: SystemView,
+    outputs: SystemView,
     s: TwoState,
     a: u8,
     b: u8,
     fit: Option<u8>,
 ) -> Product
-    requires { (WorksWith (system_of inputs.now) s a) × (WorksWith (system_of inputs.now) s b) × (WorksWhere (system_of outputs.now) s (fits fit)) }
-    ensures { result ≡ product_by (setting (system_of inputs.now) (system_of outputs.now)) s a b (fits fit) }
+    requires { (WorksWith (viewed inputs) s a) × (WorksWith (viewed inputs) s b) × (WorksWhere (viewed outputs) s (fits fit)) }
+    ensures { result ≡ product_by (setting (viewed inputs.entry) (viewed outputs.entry)) s a b (fits fit) }
 {
     match fit {
         None => absorbed_product(inputs, s, a, b),

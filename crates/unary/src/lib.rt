@@ -3,13 +3,13 @@
 #![tactic(auto)]
 
 ghost use Rattle.std.specs.Prelude.{◌≡◌, ◌+◌, ◌-◌, ◌<◌, ◌≤◌};
-ghost use Rattle.digits.specs.Orders.{system_of};
+ghost use Rattle.digits.specs.Orders.{system_of, viewed};
 ghost use Rattle.states.specs.State.{held_count};
 ghost use Rattle.steps.specs.Step.{setting};
 ghost use Rattle.steps.specs.Made.{Ready, Recognised};
 ghost use Rattle.unary.specs.Run.{answered, ran, steps_of, run_of};
 
-use digits::System;
+use digits::{System, SystemView};
 use states::{State, Stop};
 use steps::Kind;
 
@@ -52,15 +52,15 @@ fn ended(stop: Stop, i: usize, o: usize, k: usize, state: State) -> Answer
 fn run_judged(
     r: bool,
     b: bool,
-    inputs: &System,
-    outputs: &System,
+    inputs: SystemView,
+    outputs: SystemView,
     s: State,
     input: &[u8],
     output: &mut [u8],
     divisors: &mut [u64],
 ) -> Answer
-    requires { (Ready (setting (system_of inputs.now) (system_of outputs.now)) s) × (Recognised r b (setting (system_of inputs.now) (system_of outputs.now))) }
-    ensures { ran result output.new divisors.new ≡ steps_of (setting (system_of inputs.now) (system_of outputs.now)) s input.now output.old divisors.old }
+    requires { (Ready (setting (viewed inputs) (viewed outputs)) s) × (Recognised r b (setting (viewed inputs) (viewed outputs))) }
+    ensures { ran result output.new divisors.new ≡ steps_of (setting (viewed inputs.entry) (viewed outputs.entry)) s input.now output.old divisors.old }
 {
     let held = s.held;
     let k: usize = match held {
@@ -108,14 +108,14 @@ fn run_judged(
 
 // A run over systems that are lent. The systems and the state are judged first.
 pub fn run_lent(
-    inputs: &System,
-    outputs: &System,
+    inputs: SystemView,
+    outputs: SystemView,
     state: State,
     input: &[u8],
     output: &mut [u8],
     divisors: &mut [u64],
 ) -> Answer
-    ensures { ran result output.new divisors.new ≡ run_of (system_of inputs.now) (system_of outputs.now) state input.now output.old divisors.old }
+    ensures { ran result output.new divisors.new ≡ run_of (viewed inputs.entry) (viewed outputs.entry) state input.now output.old divisors.old }
 {
     match judging::refusal(inputs, outputs, state) {
         Err(refusal) => Answer {
@@ -145,5 +145,12 @@ pub fn run(
 ) -> Answer
     ensures { ran result output.new divisors.new ≡ run_of (system_of inputs) (system_of outputs) state input.now output.old divisors.old }
 {
-    run_lent(&inputs, &outputs, state, input, output, divisors)
+    run_lent(
+        inputs.view(),
+        outputs.view(),
+        state,
+        input,
+        output,
+        divisors,
+    )
 }

@@ -30,7 +30,7 @@ pub fn write(
     if matrix.len() != 4 || written.len() != 1 {
         return WRONG_LENGTH;
     }
-    match job_writing::write_lent(&input, &output, numbers::matrix_from(matrix), word, file) {
+    match job_writing::write_lent(input, output, numbers::matrix_from(matrix), word, file) {
         Err(refused) => read_call::refusal_number(refused),
         Ok(bytes) => {
             written[0] = bytes;

@@ -1,17 +1,17 @@
 -- `binary::run_judged` meets its contract. The invariant: the loop stands in the run (`Stands`), and what the steps rely on is kept. Each turn is one step, by its law in
 -- proofs/TwoTurn.antt.
 use Rattle.whole.proofs.Laws.{◌≡◌, ap, ◌∙◌, ℕ}
-use Rattle.digits.proofs.Laws.{system_of}
 use Rattle.steps.proofs.Laws.{setting}
 use Rattle.two_states.proofs.Laws.{Turn}
 use Rattle.two_steps.proofs.Laws.{Kind, Load}
 use Rattle.binary.proofs.TwoTurn.{stands_first, turn, ready_kept}
 use Rattle.binary.proofs.run_judged.Goals as goal
+use Rattle.digits.specs.Orders.{viewed}
 
 pub loop-stop-init : goal.loop-stop-init
 loop-stop-init c =
     let a = c.args in
-    (c.requires, stands_first (setting (system_of a.inputs.now) (system_of a.outputs.now)) a.s a.xs.now a.ys.now a.output.now)
+    (c.requires, stands_first (setting (viewed a.inputs) (viewed a.outputs)) a.s a.xs.now a.ys.now a.output.now)
 
 -- where it stops
 pub returns-in-Halt : goal.returns-in-Halt

@@ -9,7 +9,7 @@ use Rattle.built_in.proofs.has_row.Goals as goal
 
 pub returns : goal.returns
 returns c =
-    let columns = c.args.system.now.columns in
+    let columns = c.args.system.columns.now in
     let a = c.args.a in
     let row = c.args.row in
     let Same : ℕ → Type 0 = λ j. at columns (by_column j a) ≡ at row j in

@@ -10,5 +10,5 @@ use Rattle.cover.proofs.goes_on_from.Goals as goal
 pub returns : goal.returns
 returns c =
     let a = c.args in
-    let test : ℕ → Bool = λ b. goes_on_behind? a.v (interval_at a.system.now.columns b) in
+    let test : ℕ → Bool = λ b. goes_on_behind? a.v (interval_at a.system.columns.now b) in
     any_from_yields_List test _ _ _ c.any.ensures.ran (YieldsList-from_range a.from a.n (a.n - a.from) refl refl) (λ x b q k. search (rules, tests)) ∙ any_first test (a.n - a.from) a.from

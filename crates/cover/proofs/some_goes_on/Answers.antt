@@ -6,6 +6,7 @@ use native.Mathlib.Nat.{sub-zero, zero-add}
 use Rattle.digits.proofs.Laws.{interval_at}
 use Rattle.cover.specs.Cover.{goes_on_behind?}
 use Rattle.cover.proofs.some_goes_on.Goals as goal
+use Rattle.digits.specs.Orders.{seen}
 
 -- a search among the numbers below n, parted at one that doesn't pass
 parted : (t : ℕ → Bool) (n a : ℕ) → a < n → t a ≡ false → found? (first t n 0) ≡ (found? (first t a 0) || found? (first t (n - (a + 1)) (a + 1)))
@@ -42,14 +43,14 @@ all columns n a h = parted _ n a h (not-behind-itself (interval_at columns a))
 
 pub returns-then-goes_on_from : goal.returns-then-goes_on_from
 returns-then-goes_on_from c =
-    let s = c.args.system.now in
+    let s = (seen c.args.system) in
     let a = c.args.a in
     let e = rw c.interval-v.ensures at (sym c.goes_on_from.ensures ∙ c.if-goes_on_from.true) in
     c.if-goes_on_from.true ∙ sym (all s.columns s.count a c.requires.2 ∙ rw e (or-true (found? (first (test s.columns (interval_at s.columns a)) a 0))))
 
 pub returns-else-goes_on_from : goal.returns-else-goes_on_from
 returns-else-goes_on_from c =
-    let s = c.args.system.now in
+    let s = (seen c.args.system) in
     let a = c.args.a in
     let t = test s.columns (interval_at s.columns a) in
     let e = rw c.interval-v.ensures at (sym c.goes_on_from.ensures ∙ c.if-goes_on_from.false) in

@@ -2,10 +2,10 @@
 use Rattle.whole.proofs.Laws.{◌≡◌, sym, ap, ◌∙◌, subst, Within, begins, misses, hits, ends}
 use Rattle.plane.proofs.Laws.{Interval}
 use Rattle.inclusion.proofs.Laws.{included?}
-use Rattle.digits.proofs.Laws.{system_of}
 use Rattle.fitting.specs.FirstFit.{fits?, fitting_of, fitting}
 use Rattle.fitting.proofs.fitting_digit.Goals.{After-included}
 use Rattle.fitting.proofs.fitting_digit.Goals as goal
+use Rattle.digits.specs.Orders.{viewed}
 
 pub included-requires : goal.included-requires
 included-requires c =
@@ -14,7 +14,7 @@ included-requires c =
     (p.2, subst (Within 100) (sym c.interval.ensures) (p.1.small _ below), p.3, subst Interval (sym c.interval.ensures) (p.1.intervals _ below))
 
 -- what the call in the loop's test says
-is : (c : After-included) → c.included.result ≡ fits? (system_of c.args.outputs.now) c.args.image c.loop-b.b
+is : (c : After-included) → c.included.result ≡ fits? (viewed c.args.outputs) c.args.image c.loop-b.b
 is c = c.included.ensures ∙ ap (included? c.args.image) c.interval.ensures
 
 pub returns-then-included : goal.returns-then-included

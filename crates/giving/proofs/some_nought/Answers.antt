@@ -1,11 +1,14 @@
 -- `giving::some_nought` meets its contract: a word that holds a number is 0 just where the number is, and of the four images one is asked after the other.
-use Rattle.whole.proofs.Laws.{refl}
-use Rattle.std.proofs.Common.{rules, tests}
-use Rattle.std.proofs.lemmas.Iterator.{YieldsList-from_range}
-use Rattle.std.proofs.lemmas.Iterator.Search.{any_from_yields_List}
+use Rattle.whole.proofs.Laws.{◌∙◌, ◌&&◌, ◌||◌, arith, ℕ, at}
 use Rattle.giving.specs.MayGive.{nought?}
-use Rattle.giving.proofs.ImageByImage.{image}
+use Rattle.giving.proofs.ImageByImage.{word_nought, one_of_four}
 use Rattle.giving.proofs.some_nought.Goals as goal
 
 pub returns : goal.returns
-returns c = any_from_yields_List (λ i. nought? (image c.args.images i)) _ _ _ c.any.ensures.ran (YieldsList-from_range 0 4 4 refl refl) (λ x b q k. search (rules, tests))
+returns c =
+    let o = c.args.images.numerator in
+    let u = c.args.images.denominator in
+    let image = λ (k : ℕ). nought? (record { z0 = at o k; z1 = at u k }) in
+    (λ i. ((word_nought (at o 0) (omega arith) i && word_nought (at u 0) (omega arith) i) || (word_nought (at o 1) (omega arith) i && word_nought (at u 1) (omega arith) i) ||
+    (word_nought (at o 2) (omega arith) i && word_nought (at u 2) (omega arith) i)) || (word_nought (at o 3) (omega arith) i && word_nought (at u 3) (omega arith) i)) ∙
+    one_of_four (image 0) (image 1) (image 2) (image 3)

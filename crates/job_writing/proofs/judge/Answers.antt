@@ -10,10 +10,11 @@ use Rattle.job_writing.proofs.Judged.{input_refused, output_refused, matrix_refu
 use Rattle.std.proofs.Common.{rules}
 use Rattle.job_writing.proofs.judge.Goals.{Start}
 use Rattle.job_writing.proofs.judge.Goals as goal
+use Rattle.digits.specs.Orders.{seen}
 
 -- the contents
 abbrev these : (c : Start) → Contents
-these c = let a = c.args in contents a.input.now a.output.now a.matrix a.word.now
+these c = let a = c.args in contents (seen a.input) (seen a.output) a.matrix a.word.now
 
 pub returns-in_err-in_section : goal.returns-in_err-in_section
 returns-in_err-in_section c =

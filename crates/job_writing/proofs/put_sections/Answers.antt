@@ -3,6 +3,7 @@ use Rattle.whole.proofs.Laws.{◌≡◌, ap, ◌∙◌, List, ◌++◌, append_a
 use Rattle.job_sections.proofs.Laws.{system_bytes, matrix_bytes, word_bytes}
 use Rattle.written_sections.proofs.Laws.{filled_behind}
 use Rattle.job_writing.proofs.put_sections.Goals as goal
+use Rattle.digits.specs.Orders.{seen}
 
 four_behind : (a b c d : List ℕ) → ((a ++ b) ++ c) ++ d ≡ a ++ (b ++ (c ++ d))
 four_behind a b c d = append_assoc (a ++ b) c d ∙ append_assoc a b (c ++ d)
@@ -11,4 +12,4 @@ pub returns : goal.returns
 returns c =
     let a = c.args in
     let all = filled_behind (filled_behind (filled_behind c.put_system-a.ensures.0 c.put_system.ensures.0) c.put_matrix.ensures.0) c.put_word.ensures.0 in
-    all.filled ∙ ap (λ (l : List ℕ). written l a.buffer.now) (four_behind (system_bytes a.input.now) (system_bytes a.output.now) (matrix_bytes a.matrix) (word_bytes a.word.now))
+    all.filled ∙ ap (λ (l : List ℕ). written l a.buffer.now) (four_behind (system_bytes (seen a.input)) (system_bytes (seen a.output)) (matrix_bytes a.matrix) (word_bytes a.word.now))

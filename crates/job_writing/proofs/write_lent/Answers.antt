@@ -8,10 +8,11 @@ use Rattle.job_writing.proofs.WrittenFile.{refused_leaves, short_leaves, file_le
 use Rattle.std.proofs.Common.{rules}
 use Rattle.job_writing.proofs.write_lent.Goals.{Start}
 use Rattle.job_writing.proofs.write_lent.Goals as goal
+use Rattle.digits.specs.Orders.{seen}
 
 -- the contents
 abbrev these : (c : Start) → Contents
-these c = let a = c.args in contents a.input.now a.output.now a.matrix a.word.now
+these c = let a = c.args in contents (seen a.input) (seen a.output) a.matrix a.word.now
 
 pub returns-in_err-size : goal.returns-in_err-size
 returns-in_err-size c =

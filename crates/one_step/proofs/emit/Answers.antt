@@ -1,15 +1,16 @@
 -- `one_step::emit` meets its contract: lines 4 and 5 of a step. What was found to fit is the plan's choice, however it was searched for.
 use Rattle.whole.proofs.Laws.{◌≡◌, sym, ap, subst, ◌∙◌, false≢true, List, Option, ℕ, ◌-◌}
 use Rattle.plane.proofs.Laws.{image_of}
-use Rattle.digits.proofs.Laws.{system_of, table_of, rows_r, interval}
+use Rattle.digits.proofs.Laws.{table_of, rows_r, interval}
 use Rattle.fitting.proofs.Laws.{Fitting, fits, fitting, fitting_of, same_fitting, fits_back}
 use Rattle.steps.proofs.Laws.{Move, Setting, setting, one_word, chosen, held_plan, emit_plan, Follows}
 use Rattle.one_step.proofs.Fit.{works_where}
 use Rattle.one_step.proofs.emit.Goals.{After-fitting_of_r-fit, Start}
 use Rattle.one_step.proofs.emit.Goals as goal
+use Rattle.digits.specs.Orders.{viewed}
 
 abbrev pair : Start → Setting
-pair s = setting (system_of s.args.inputs.now) (system_of s.args.outputs.now)
+pair s = setting (viewed s.args.inputs) (viewed s.args.outputs)
 
 -- what was found is the plan's choice
 abbrev Chosen : Start → Fitting → Type 0

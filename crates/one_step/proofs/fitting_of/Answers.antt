@@ -1,11 +1,11 @@
 -- `one_step::fitting_of` meets its contract: the image is formed once, and searched for among the digits of the output system, by constants where that is B.
 use Rattle.whole.proofs.Laws.{◌≡◌, sym, ap, subst, ◌∙◌, Within, within_le}
 use Rattle.plane.proofs.Laws.{Interval, image_of, image_within, interval_moves}
-use Rattle.digits.proofs.Laws.{system_of}
 use Rattle.fitting.proofs.Laws.{fitting, fitting_of, same_fitting}
 use Rattle.steps.proofs.Laws.{Setting, setting, chosen}
 use Rattle.one_step.proofs.fitting_of.Goals.{After-image-image, Start}
 use Rattle.one_step.proofs.fitting_of.Goals as goal
+use Rattle.digits.specs.Orders.{viewed}
 
 pub interval-w-requires : goal.interval-w-requires
 interval-w-requires c = c.requires.0.there
@@ -20,7 +20,7 @@ abbrev start : After-image-image → Start
 start c = c.before.before.before
 
 abbrev pair : After-image-image → Setting
-pair c = let a = (start c).args in setting (system_of a.inputs.now) (system_of a.outputs.now)
+pair c = let a = (start c).args in setting (viewed a.inputs) (viewed a.outputs)
 
 image-is : (c : After-image-image) → let a = (start c).args in c.image-image.result ≡ image_of a.s.matrix ((pair c).input.interval a.h)
 image-is c = c.image-image.ensures ∙ ap (image_of (start c).args.s.matrix) c.interval-w.ensures

@@ -1,12 +1,13 @@
 -- `steps::absorbed_product` meets its contract: by the constants of R, where nothing is cancelled, or from the digit's transformation, cancelled by its determinant.
 use Rattle.whole.proofs.Laws.{refl, sym, ap, subst, subst₂, ◌∙◌, List, ℕ, nat_abs, ℤ, gcd4, Within}
 use Rattle.plane.proofs.Laws.{cancel_of, determinant_of, multiply_of, within_products}
-use Rattle.digits.proofs.Laws.{system_of, transformation}
+use Rattle.digits.proofs.Laws.{transformation}
 use Rattle.built_in_digits.proofs.Laws.{r_determinant}
 use Rattle.steps.specs.Made.{Factors}
 use Rattle.steps.proofs.Factors.{absorb_factors}
 use Rattle.steps.proofs.ByDeterminant.{cast_ok, size_held, nothing_cancelled}
 use Rattle.steps.proofs.absorbed_product.Goals as goal
+use Rattle.digits.specs.Orders.{viewed}
 
 -- the product, by the digit's transformation
 abbrev by : List ℤ → List ℤ → List ℤ
@@ -23,7 +24,7 @@ returns-then-r c =
     let x = c.args.s.matrix in
     let same = c.requires.1.same c.if-r.true in
     let one = ap (λ (f : List ℤ). nat_abs (determinant_of f)) same ∙ r_determinant _ (c.requires.1.below c.if-r.true) in
-    let kept = nothing_cancelled (by x (transformation (system_of c.args.inputs.now) c.args.h)) refl (absorb_factors c.requires.0).divides one in
+    let kept = nothing_cancelled (by x (transformation (viewed c.args.inputs) c.args.h)) refl (absorb_factors c.requires.0).divides one in
     (kept.0, c.absorbed_r.ensures ∙ ap (by x) (sym same) ∙ kept.1)
 
 -- ---- where it is not: by the transformation that was read

@@ -15,7 +15,7 @@ loop-stop-init c =
     let first : c.match-held.k + held_count a.s.held ≡ 1 = elim c.match-held.branch [ in-None w ↦ omega (arith, ap held_count w.in-None.is) | in-Some w ↦ omega (arith, ap held_count w.in-Some.is) ] in (
       c.requires.0,
       first,
-      stands_first (both a.inputs.now a.outputs.now) a.s
+      stands_first (both a.inputs a.outputs) a.s
           (lent_to a.input.now a.output.now a.divisors.now),
     )
 

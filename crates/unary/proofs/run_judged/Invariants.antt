@@ -1,14 +1,15 @@
 -- `unary::run_judged` meets its contract. The invariant: the loop stands in the run (`Stands`), what the steps rely on is kept, and k is 1 if nothing was held at the start, and else
 -- 0. Each turn is one step, by its law in proofs/Turn.antt.
 use Rattle.whole.proofs.Laws.{◌≡◌, ◌+◌}
-use Rattle.digits.proofs.Laws.{StoredSystem, system_of}
+use Rattle.digits.specs.Types.{SystemView}
+use Rattle.digits.specs.Orders.{viewed}
 use Rattle.states.proofs.Laws.{held_count}
 use Rattle.steps.proofs.Laws.{Setting, setting, Ready}
 use Rattle.unary.proofs.Turn.{lent_to, Stands, steps_left}
 use Rattle.unary.proofs.run_judged.Given as goal
 
-abbrev pub both : StoredSystem → StoredSystem → Setting
-both a b = setting (system_of a) (system_of b)
+abbrev pub both : SystemView → SystemView → Setting
+both a b = setting (viewed a) (viewed b)
 
 abbrev pub invariant-loop-stop : goal.invariant-loop-stop
 invariant-loop-stop l =

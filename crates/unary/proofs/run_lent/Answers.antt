@@ -2,7 +2,7 @@
 use Rattle.whole.proofs.Laws.{◌≡◌, refl, sym, ap, ◌∙◌, arith, ℕ, ◌*◌, length}
 use Rattle.refusals.proofs.Numbers.{numbered}
 use Rattle.refusals.specs.Numbers.{outcome_number}
-use Rattle.digits.proofs.Laws.{system_of, rows_r, rows_b, joined, b_by_symmetry}
+use Rattle.digits.proofs.Laws.{rows_r, rows_b, joined, b_by_symmetry}
 use Rattle.built_in.proofs.Laws.{same_as_table}
 use Rattle.runs.proofs.Laws.{stopped}
 use Rattle.states.proofs.Laws.{Refused}
@@ -10,13 +10,14 @@ use Rattle.judging.proofs.Laws.{accepted_ready}
 use Rattle.unary.specs.Run.{leaves}
 use Rattle.unary.proofs.Runs.{run_accepted, refused_untouched}
 use Rattle.unary.proofs.run_lent.Goals as goal
+use Rattle.digits.specs.Orders.{viewed}
 
 pub returns-in-Err : goal.returns-in-Err
 returns-in-Err c =
     let a = c.args in
     let e = sym (ap outcome_number c.in-Err.is) ∙ c.refusal.ensures in
     ap (λ (n : ℕ). leaves (stopped (Refused n) a.state) a.output.now a.divisors.now) (c.number.ensures ∙ e) ∙
-    sym (refused_untouched (system_of a.inputs.now) (system_of a.outputs.now) a.state a.input.now a.output.now a.divisors.now (λ z. omega (arith, numbered c.in-Err.refusal, e, z)))
+    sym (refused_untouched (viewed a.inputs) (viewed a.outputs) a.state a.input.now a.output.now a.divisors.now (λ z. omega (arith, numbered c.in-Err.refusal, e, z)))
 
 -- B's table has eight rows of eight
 b-size : length (joined rows_b) ≡ 8 * length rows_b
@@ -38,4 +39,4 @@ pub returns-in-Ok : goal.returns-in-Ok
 returns-in-Ok c =
     let a = c.args in
     c.run_judged.ensures ∙
-    sym (run_accepted (system_of a.inputs.now) (system_of a.outputs.now) a.state a.input.now a.output.now a.divisors.now (sym c.refusal.ensures ∙ ap outcome_number c.in-Ok.is))
+    sym (run_accepted (viewed a.inputs) (viewed a.outputs) a.state a.input.now a.output.now a.divisors.now (sym c.refusal.ensures ∙ ap outcome_number c.in-Ok.is))
