@@ -1,7 +1,8 @@
 -- Whether a section is there: one law for each way, which the code follows too.
 use Rattle.whole.proofs.Laws.{◌≡◌, sym, ap, subst, List, ◌⊎◌, inl, inr, ℕ, ◌+◌, ◌*◌, ◌≤◌, ◌<◌, dec_le, arith, lt-ltb, le-ltb, length}
 use Rattle.sections.specs.Bytes.{count_of}
-use Rattle.sections.specs.Section.{Limits, size_of, presence, Absent, no_count, too_few, too_many, cut_off, Present}
+use Rattle.refusals.specs.Types.{Ok, Err}
+use Rattle.sections.specs.Section.{Limits, size_of, presence, count_or, Absent, no_count, too_few, too_many, cut_off, Present}
 
 module _ {l : Limits} {bytes : List ℕ} where
   pub absent_is : {number : ℕ} → Absent l bytes number → presence l bytes ≡ number
@@ -54,16 +55,35 @@ module _ (l : Limits) (bytes : List ℕ) where
     ]
   ]
 
--- as code goes, which holds the count n
-module _ (l : Limits) (bytes : List ℕ) {n : ℕ} (e : n ≡ count_of bytes) (h : 2 ≤ length bytes) where
-  pub few_is : n < l.least → l.wrong ≡ presence l bytes
-  few_is f = sym (absent_is (too_few h (omega arith)))
+-- as code goes, which holds the count n, and has answers of its own for a section that is cut off and for a wrong count
+module _ {R : Type 0} (cut wrong : R) (least most unit : ℕ) (bytes : List ℕ) where
+  pub short_is : length bytes < 2 → Err cut ≡ count_or cut wrong least most unit bytes
+  unfolding count_or
+  short_is h = rw (lt-ltb (length bytes) 2 h)
 
-  pub many_is : l.most < n → l.wrong ≡ presence l bytes
-  many_is m = sym (absent_is (too_many h (omega arith)))
+  module _ {n : ℕ} (e : n ≡ count_of bytes) (h : 2 ≤ length bytes) where
+    pub few_is : n < least → Err wrong ≡ count_or cut wrong least most unit bytes
+    unfolding count_or
+    few_is f = rw (le-ltb (length bytes) 2 h, lt-ltb (count_of bytes) least (omega arith))
 
-  pub cut_is : l.least ≤ n → n ≤ l.most → length bytes < 2 + l.unit * n → 1 ≡ presence l bytes
-  cut_is f m s = sym (absent_is (cut_off h (omega arith) (omega arith) (omega (arith, ap (λ (k : ℕ). l.unit * k) e))))
+    pub many_is : least ≤ n → most < n → Err wrong ≡ count_or cut wrong least most unit bytes
+    unfolding count_or
+    many_is f m = rw (le-ltb (length bytes) 2 h, le-ltb (count_of bytes) least (omega arith), lt-ltb most (count_of bytes) (omega arith))
 
-  pub whole_is : l.least ≤ n → n ≤ l.most → 2 + l.unit * n ≤ length bytes → 0 ≡ presence l bytes
-  whole_is f m s = sym (present_is (record { some = omega arith; few = omega arith; fits = omega (arith, ap (λ (k : ℕ). l.unit * k) e) }))
+    pub cut_is : least ≤ n → n ≤ most → length bytes < 2 + unit * n → Err cut ≡ count_or cut wrong least most unit bytes
+    unfolding count_or
+    cut_is f m s = rw (
+      le-ltb (length bytes) 2 h,
+      le-ltb (count_of bytes) least (omega arith),
+      le-ltb most (count_of bytes) (omega arith),
+      lt-ltb (length bytes) (2 + unit * count_of bytes) (subst (λ (k : ℕ). length bytes < 2 + unit * k) e s),
+    )
+
+    pub whole_is : least ≤ n → n ≤ most → 2 + unit * n ≤ length bytes → Ok n ≡ count_or cut wrong least most unit bytes
+    unfolding count_or
+    whole_is f m s = rw (
+      le-ltb (length bytes) 2 h,
+      le-ltb (count_of bytes) least (omega arith),
+      le-ltb most (count_of bytes) (omega arith),
+      le-ltb (length bytes) (2 + unit * count_of bytes) (subst (λ (k : ℕ). 2 + unit * k ≤ length bytes) e s),
+    ) (ap (λ (k : ℕ). Ok k) e)

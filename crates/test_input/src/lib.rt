@@ -45,7 +45,7 @@ impl Input {
 
     // (Out of line, so that the code for a byte that is there is short.)
     #[inline(never)]
-    fn fill(&mut self) {
+    fn refill(&mut self) {
         self.next = 0;
         self.end = 0;
         if self.status.is_err() {
@@ -60,7 +60,7 @@ impl Input {
     // The next byte, and none where the input has ended.
     fn next(&mut self) -> Option<u8> {
         if self.next == self.end {
-            self.fill();
+            self.refill();
         }
         if self.next == self.end {
             return None;

@@ -1,14 +1,15 @@
 -- `jobs::read` meets its contract: the first section that is refused decides, or 2, or the job. Behind each section that passes, the rest of the file decides (`Reached`).
 use Rattle.whole.proofs.Laws.{◌≡◌, refl, sym, ap, ◌∙◌, subst, List, ℕ, ◌+◌, ◌*◌, arith, length, drop, length-drop, length-take-le}
-use Rattle.refusals.specs.Types.{WordCount, Refusal, Result, Ok, Err}
-use Rattle.refusals.specs.Numbers.{number_of, outcome_number}
+use Rattle.refusals.specs.Types.{CutOff, WordCount, Refusal, Result, Ok, Err}
+use Rattle.refusals.specs.Numbers.{number_of}
 use Rattle.digits.proofs.Laws.{StoredSystem}
 use Rattle.sections.specs.Section.{Section}
+use Rattle.sections.specs.Section.{count_or}
 use Rattle.sections.proofs.Laws.{count_says, Part, count_of, size_of, presence, Present, value_of, nothing, ◌then◌, Taken, Answered, present, not_there, answered, Reached, at_0, left, start, stops, goes, ended, followed}
 use Rattle.jobs.specs.Types.{Reads, Reading}
 use Rattle.job_sections.proofs.Laws.{FileRefusal, system, matrix, word, in_section, passes_section, refuses_section}
 use Rattle.jobs.specs.Reading.{bytes_of, reading_of, refused, Parts, job, contents_of, read_as, read_of}
-use Rattle.std.proofs.Common.{rules, IfOk}
+use Rattle.std.proofs.Common.{rules}
 use Rattle.jobs.proofs.read.Goals.{In_ok-first, In_ok-second, In_ok-third, In_ok-length}
 use Rattle.jobs.proofs.read.Goals as goal
 
@@ -88,20 +89,19 @@ returns-in_err-third c =
     ap read_as e ∙ refuses_at f k.1 (stops (second p.In_ok-second) (stopped c.matrix_section.ensures 2 c.in_section-3.ensures c.in_err-third.was))
 
 -- a word's presence, where it is refused and where not
-word_refused : {bytes : List ℕ} {o : Result ℕ Refusal} {r : Refusal} → outcome_number o ≡ presence word.limits bytes → o ≡ Err r → Answered word bytes (Err r)
-word_refused is e = not_there word (sym (ap outcome_number e) ∙ is)
+word_refused : {bytes : List ℕ} {o : Result ℕ Refusal} {r : Refusal} → o ≡ count_or CutOff WordCount 0 4096 1 bytes → o ≡ Err r → Answered word bytes (Err r)
+word_refused is e = not_there word (count_says WordCount (sym e ∙ is)).number
 
 record IsThere (bytes : List ℕ) (n : ℕ) : Type 0 where
   present : 0 ≡ presence word.limits bytes
   count : n ≡ count_of bytes
 
-word_passed : (bytes : List ℕ) {o : Result ℕ Refusal} {n : ℕ} → outcome_number o ≡ presence word.limits bytes → IfOk o (λ k. k ≡ count_of bytes) → o ≡ Ok n → IsThere bytes n
-word_passed bytes is n e = record { present = sym (ap outcome_number e) ∙ is; count = subst (λ (o : Result ℕ Refusal). IfOk o (λ k. k ≡ count_of bytes)) e n }
+word_passed : {bytes : List ℕ} {o : Result ℕ Refusal} {n : ℕ} → o ≡ count_or CutOff WordCount 0 4096 1 bytes → o ≡ Ok n → IsThere bytes n
+word_passed is e = let w = count_says WordCount (sym e ∙ is) in record { present = w.number; count = w.count }
 
 pub overflow_add-length : goal.overflow_add-length
 overflow_add-length c =
-    let n = count_says WordCount c.presence-length.ensures in
-    let w = word_passed _ n.number n.count (passes_section 3 (sym c.in_section-4.ensures ∙ c.in_ok-length.was)) in
+    let w = word_passed c.presence-length.ensures (passes_section 3 (sym c.in_section-4.ensures ∙ c.in_ok-length.was)) in
     omega (arith, w.count, (word_there w.present).taken.present.few)
 
 pub returns-in_err-length : goal.returns-in_err-length
@@ -110,12 +110,12 @@ returns-in_err-length c =
     let f = c.in_err-length.field-0.0 in
     let e : c.from_residual-in_err-length.result ≡ Err f = search rules in
     let k = refuses_section (sym c.in_section-4.ensures ∙ c.in_err-length.was) in
-    ap read_as e ∙ refuses_at f k.1 (stops (third p.In_ok-third) (word_refused (count_says WordCount c.presence-length.ensures).number k.0))
+    ap read_as e ∙ refuses_at f k.1 (stops (third p.In_ok-third) (word_refused c.presence-length.ensures k.0))
 
 pub returns-then-length-rest : goal.returns-then-length-rest
 returns-then-length-rest c =
     let t = third (goal.at.returns-then-length-rest c).In_ok-third in
-    let w = word_passed _ (count_says WordCount c.presence-length.ensures).number (count_says WordCount c.presence-length.ensures).count (passes_section 3 (sym c.in_section-4.ensures ∙ c.in_ok-length.was)) in
+    let w = word_passed c.presence-length.ensures (passes_section 3 (sym c.in_section-4.ensures ∙ c.in_ok-length.was)) in
     ap read_as c.in_section-then-length-rest.ensures ∙ followed (goes t (word_there w.present) refl) (omega (arith, left t, w.count, c.if-length-rest.true))
 
 system_size : {bytes : List ℕ} {n : ℕ} {s : StoredSystem} → Taken system bytes n s → n ≡ bytes_of s
@@ -125,7 +125,7 @@ pub returns : goal.returns
 unfolding reading_of
 returns c =
     let t = third (goal.at.returns c).In_ok-third in
-    let n = word_passed _ (count_says WordCount c.presence-length.ensures).number (count_says WordCount c.presence-length.ensures).count (passes_section 3 (sym c.in_section-4.ensures ∙ c.in_ok-length.was)) in
+    let n = word_passed c.presence-length.ensures (passes_section 3 (sym c.in_section-4.ensures ∙ c.in_ok-length.was)) in
     let w = word_there n.present in
     let p = c.in_ok-first.first in
     let q = c.in_ok-second.second in
